@@ -1,7 +1,8 @@
 -- A coordinator's rows are walked once, in two: what a mail did, which is a point that the transaction has passed or its end, and which
 -- request follows. What is shown of each holds of the rows: a theorem shows once what holds at a point, and once that a move keeps it.
 -- A new move is a field here, and of each theorem's cases; a new point is a constructor.
-use Rattle.std.proofs.Common.{List, None, Option, Some, [], ◌∷◌, map, refl, true, ℕ, ℤ, ◌&&◌, ◌==◌, ◌≡◌}
+use Rattle.std.specs.List.{list_any}
+use Rattle.std.proofs.Common.{List, None, Option, Some, [], ◌∷◌, false, map, option_map, refl, subst, true, ℕ, ℤ, ◌&&◌, ◌==◌, ◌≡◌}
 use Rattle.std.proofs.lemmas.Bool.{and_parts}
 use Rattle.tp_types.specs.Effect.{Effect, ignores, sends}
 use Rattle.tp_model.specs.Words.actor
@@ -10,9 +11,9 @@ use Rattle.tp_model.specs.Words.body
 use Rattle.tp_model.specs.Words.cause
 use Rattle.tp_model.specs.Words.no
 use Rattle.tp_model.specs.Words.vote
-use Rattle.tp_model.specs.Words.{AckReply, Actor, Answer, Body, Cause, Deed, DoneReply, InquireRequest, Instance, Letter, Mail, No, Outcome, Query, Scenario, ServerId, Staple, TellReply, TxnId, Verdict, Vote, VoteReply}
+use Rattle.tp_model.specs.Words.{AckReply, Actor, Answer, Body, Cause, Deed, DoneReply, InquireRequest, Instance, Letter, Mail, Met, NewestReply, No, Outcome, Query, Reading, Scenario, ServerId, Staple, TellReply, TxnId, Verdict, Vote, VoteReply}
 use Rattle.tp_types.proofs.EachLemmas.{by_cond}
-use Rattle.tp_coord.specs.Row.{aborts, ack_from, ask_letter, asks, awaited_in, awaits_query, awaits_vote, begins, commit_round, commits, coordinator_row, counts, decide_letters, denied_by, died_for, home_of, instances_with, is_from, is_plain, makes, move_after, move_at, next_number, on_ack, on_all_true, on_answer, on_body, on_done_from, on_done_of_query, on_inquire, on_judged, on_no, on_staple, on_vote, on_vote_of, prepare_letter, prepares, own_query, query_again, query_request, refused_by, repeats, request, sends_next, sends_query, server_of, staple_of, submit_row, tells, vote_at, with_deed, without}
+use Rattle.tp_coord.specs.Row.{aborts, ack_from, ask_letter, asks, asks_in, awaited_in, awaits_query, awaits_vote, begins, commit_round, commits, coordinator_row, decide_letters, denied_by, died_for, home_of, instances_with, is_from, makes, move_after, move_at, next_number, on_ack, on_all_true, on_answer, on_body, on_done_from, on_done_of_query, on_inquire, on_judged, on_no, on_reading, on_reply, on_staple, on_vote, on_vote_of, own_query, place_of, prepare_letter, prepares, probe_letter, probes, query_again, query_request, reading_of, refused_by, repeats, request, sends_next, sends_query, server_of, staple_of, stays, submit_row, tells, vote_at, with_deed, with_proof, without}
 use Rattle.tp_coord.specs.State.{Coordinator}
 use Rattle.tp_coord.specs.declared.coordinator.Phase.TheVariants as phase
 use Rattle.tp_coord.specs.declared.coordinator.Phase.{Phase}
@@ -23,7 +24,7 @@ use Rattle.tp_scheme.specs.declared.moves.Point.TheVariants as point
 use Rattle.tp_scheme.specs.declared.moves.Move.{Move}
 use Rattle.tp_scheme.specs.declared.moves.Point.{Point}
 use Rattle.tp_round.proofs.SpentLemmas.{unread_unspent}
-use Rattle.tp_round.specs.Judge.{after_judgement, after_reply, is_awaited, judge}
+use Rattle.tp_round.specs.Judge.{after_judgement, after_reply, is_awaited, is_missing, judge}
 use Rattle.tp_round.specs.Replies.{by_query, proofs_in}
 use Rattle.tp_round.specs.declared.round.Judged.TheVariants as judged
 use Rattle.tp_round.specs.declared.round.Judged.{Judged}
@@ -37,14 +38,19 @@ pub record IsAwaitedAnswer (sc : Scenario) (c : Coordinator) (mail : Mail) (done
   pub said_is : mail.letter.body ≡ body.Done done
   pub from_is : is_from mail.letter.from server ≡ true
   pub awaited : awaits_query c c.phase done ≡ true
-  pub plain : is_plain c.phase ≡ true
   pub asked_is : own_query sc c done.query ≡ Some asked
   pub server_is : server_of sc asked ≡ Some server
   pub answer_is : done.answer ≡ given
 
--- that to one which ran
-abbrev pub IsRanAnswer : Scenario → Coordinator → Mail → DoneReply → ServerId → Query → ℤ → Type 0
-IsRanAnswer sc c mail done server asked value = IsAwaitedAnswer sc c mail done server asked (answer.Ran value None)
+-- that to one which ran, with its proof if it has one
+abbrev pub IsRanAnswer : Scenario → Coordinator → Mail → DoneReply → ServerId → Query → ℤ → Option Verdict → Type 0
+IsRanAnswer sc c mail done server asked value proof = IsAwaitedAnswer sc c mail done server asked (answer.Ran value proof)
+
+-- the awaited answer of the authority, before a query
+pub record IsStapleOfQuery (c : Coordinator) (mail : Mail) (tell : TellReply) (query : ℕ) : Type 0 where
+  pub said_is : mail.letter.body ≡ body.Tell tell
+  pub present : (tell.turn == c.turn) ≡ true
+  pub stapling : c.phase ≡ phase.Stapling query
 
 -- the awaited answer of the authority, before a round at commit
 pub record IsStaple (c : Coordinator) (mail : Mail) (tell : TellReply) (round : Round) : Type 0 where
@@ -70,6 +76,18 @@ pub record IsNo (c : Coordinator) (mail : Mail) (reply : VoteReply) (round : Rou
   pub awaited : is_awaited round.targets server ≡ true
   pub vote_is : reply.vote ≡ vote.No why
 
+-- the awaited reading of the master, after all replies of a round at commit
+pub record IsReading (c : Coordinator) (mail : Mail) (reply : NewestReply) (round : Round) : Type 0 where
+  pub said_is : mail.letter.body ≡ body.Newest reply
+  pub present : (reply.turn == c.turn) ≡ true
+  pub reading : c.phase ≡ phase.Reading span.Commit round
+
+-- a round that is judged, which awaits this: where it reads no master by the last vote YES, and else by the reading
+pub data IsJudged (c : Coordinator) (mail : Mail) : Round → Option Staple → Option Reading → Type 0 where
+  ByVotes : (reply : VoteReply) (round : Round) (staple : Staple) (server : ServerId) (verdicts : List Verdict) → IsYes c mail reply round staple server verdicts
+      → list_any is_missing (after_reply round server verdicts).targets ≡ false → (after_reply round server verdicts).reads ≡ false → IsJudged c mail (after_reply round server verdicts) (Some staple) None
+  ByReading : (reply : NewestReply) (round : Round) → IsReading c mail reply round → IsJudged c mail round None (Some (reading_of reply mail.sent))
+
 -- an acknowledgement of what was decided
 pub record IsAck (c : Coordinator) (mail : Mail) (ack : AckReply) (ended : Outcome) (awaited : List ServerId) (server : ServerId) : Type 0 where
   pub said_is : mail.letter.body ≡ body.Ack ack
@@ -94,40 +112,42 @@ pub record Gained : Type 0 where
 abbrev pub with_gained : Coordinator → Gained → Coordinator
 with_gained c now = record c { epochs = now.epochs; deeds = now.deeds; gathered = now.gathered; instances = now.instances }
 
--- a query that ran adds its deed, and the epoch of its server
-abbrev pub gains_deed : Coordinator → ServerId → DoneReply → Query → ℤ → Gained
-gains_deed c server done asked value = record {
+-- a query that ran adds its deed, the epoch of its server, and an instance of its proof if it has one
+abbrev pub gains_deed : Coordinator → ServerId → DoneReply → Query → ℤ → Option Verdict → Gained
+gains_deed c server done asked value proof = record {
   epochs = (with_deed c server done asked value).epochs;
   deeds = (with_deed c server done asked value).deeds;
   gathered = c.gathered;
-  instances = c.instances;
+  instances = (with_proof c proof).instances;
 }
 
 -- proofs that agree add an instance
 abbrev pub gains_instances : Coordinator → List Instance → Gained
 gains_instances c instances = record { epochs = c.epochs; deeds = c.deeds; gathered = c.gathered; instances = instances }
 
--- an awaited vote YES, with which all proofs of its round are true
-pub record IsAllTrue (c : Coordinator) (mail : Mail) (reply : VoteReply) (round : Round) (staple : Staple) (server : ServerId) (verdicts : List Verdict) : Type 0 where
-  pub yes : IsYes c mail reply round staple server verdicts
-  pub all_true : judge (after_reply round server verdicts) None ≡ judged.AllTrue
+-- a round that is judged, all of whose proofs are true
+pub record IsAllTrue (c : Coordinator) (mail : Mail) (round : Round) (staple : Option Staple) (reading : Option Reading) : Type 0 where
+  pub is_judged : IsJudged c mail round staple reading
+  pub all_true : judge round reading ≡ judged.AllTrue
 
 -- by the mail the transaction has passed a point of a query, and gained this
 pub data IsPassed (sc : Scenario) (c : Coordinator) (mail : Mail) : Point → Gained → Type 0 where
-  QueryRan : (done : DoneReply) (server : ServerId) (asked : Query) (value : ℤ) → IsRanAnswer sc c mail done server asked value
-      → IsPassed sc c mail (point.Ran done.query) (gains_deed c server done asked value)
+  QueryRan : (done : DoneReply) (server : ServerId) (asked : Query) (value : ℤ) (proof : Option Verdict) → IsRanAnswer sc c mail done server asked value proof
+      → IsPassed sc c mail (point.Ran done.query) (gains_deed c server done asked value proof)
 
 -- by the mail the transaction has passed a point after the votes, with these instances and after so many rounds
 pub data HasVoted (sc : Scenario) (c : Coordinator) (mail : Mail) : Point → List Instance → ℕ → Type 0 where
-  AllTrue : (reply : VoteReply) (round : Round) (staple : Staple) (server : ServerId) (verdicts : List Verdict) → IsAllTrue c mail reply round staple server verdicts
-      → HasVoted sc c mail point.Voted (instances_with c (by_query (proofs_in (after_reply round server verdicts).targets))) round.number
+  AllTrue : (round : Round) (staple : Option Staple) (reading : Option Reading) → IsAllTrue c mail round staple reading
+      → HasVoted sc c mail point.Voted (instances_with c (option_map place_of reading) (by_query (proofs_in round.targets))) round.number
 
 -- by the mail the transaction aborts, for this cause
 pub data IsEnded (sc : Scenario) (c : Coordinator) (mail : Mail) : Cause → Type 0 where
   ByOlder : (done : DoneReply) (server : ServerId) (asked : Query) (other : TxnId) → IsAwaitedAnswer sc c mail done server asked (answer.Died other) → IsEnded sc c mail (cause.Died (died_for server done other mail.sent))
   ByRestart : (done : DoneReply) (server : ServerId) (asked : Query) → IsAwaitedAnswer sc c mail done server asked answer.Restarted → IsEnded sc c mail (cause.Restarted server)
-  ByProof : (reply : VoteReply) (round : Round) (staple : Staple) (server : ServerId) (verdicts : List Verdict) (verdict : Verdict) → IsYes c mail reply round staple server verdicts
-      → judge (after_reply round server verdicts) None ≡ judged.False verdict → IsEnded sc c mail (cause.Denied (denied_by verdict))
+  ByDenial : (done : DoneReply) (server : ServerId) (asked : Query) (verdict : Verdict) → IsAwaitedAnswer sc c mail done server asked (answer.Denied verdict) → IsEnded sc c mail (cause.Denied (denied_by verdict))
+  ByProof : (round : Round) (staple : Option Staple) (reading : Option Reading) (verdict : Verdict) → IsJudged c mail round staple reading → judge round reading ≡ judged.False verdict
+      → IsEnded sc c mail (cause.Denied (denied_by verdict))
+  ByRounds : (reply : NewestReply) (round : Round) (mets : List Met) → IsReading c mail reply round → judge round (Some (reading_of reply mail.sent)) ≡ judged.Spent mets → IsEnded sc c mail (cause.Rounds mets)
   ByRefusal : (reply : VoteReply) (round : Round) (staple : Staple) (server : ServerId) (number : ℕ) (value : ℤ) → IsNo c mail reply round staple server (no.Range number value)
       → IsEnded sc c mail (cause.No (refused_by server number value))
   ByLoss : (reply : VoteReply) (round : Round) (staple : Staple) (server : ServerId) → IsNo c mail reply round staple server no.Restarted → IsEnded sc c mail (cause.Restarted server)
@@ -135,81 +155,114 @@ pub data IsEnded (sc : Scenario) (c : Coordinator) (mail : Mail) : Cause → Typ
 -- what is to be shown of the outcomes of a receipt: P of the effect
 pub record CoordinatorCases (sc : Scenario) (c : Coordinator) (mail : Mail) (P : Effect Coordinator → Type 0) : Type 0 where
   pub ignored : P (ignores c)
+  pub stapled : (tell : TellReply) (query : ℕ) (home : ServerId) → IsStapleOfQuery c mail tell query → home_of sc c query ≡ Some home → P (sends_query sc c query (Some (staple_of tell mail.sent)) home)
   pub sends_query : (query : ℕ) (now : Gained) (next : ServerId) → IsPassed sc c mail (point.Ran query) now → move_after sc c query ≡ move.SendQuery → home_of sc c (next_number query) ≡ Some next
-      → P (sends_query sc (with_gained c now) (next_number query) next)
-  pub commit_rounds : (query : ℕ) (now : Gained) → IsPassed sc c mail (point.Ran query) now → move_after sc c query ≡ move.CommitRounds → P (asks (with_gained c now) span.Commit (commit_round c))
+      → P (sends_query sc (with_gained c now) (next_number query) None next)
+  pub asks_staple : (query : ℕ) (now : Gained) → IsPassed sc c mail (point.Ran query) now → move_after sc c query ≡ move.Ask → P (asks_in (with_gained c now) (phase.Stapling (next_number query)))
+  pub commit_rounds : (query : ℕ) (now : Gained) → IsPassed sc c mail (point.Ran query) now → move_after sc c query ≡ move.CommitRounds → P (asks (with_gained c now) span.Commit (commit_round sc c))
   pub decides : (instances : List Instance) (rounds : ℕ) → HasVoted sc c mail point.Voted instances rounds → P (commits (with_gained c (gains_instances c instances)) rounds)
   pub aborted : (why : Cause) → IsEnded sc c mail why → P (aborts c why)
   pub told : (tell : TellReply) (round : Round) → IsStaple c mail tell round → P (prepares c span.Commit round (staple_of tell mail.sent))
   pub counted : (reply : VoteReply) (round : Round) (staple : Staple) (server : ServerId) (verdicts : List Verdict) → IsYes c mail reply round staple server verdicts
-      → P (counts c span.Commit (after_reply round server verdicts) staple)
-  pub updated : (reply : VoteReply) (round : Round) (staple : Staple) (server : ServerId) (verdicts : List Verdict) (named : List Wanted) → IsYes c mail reply round staple server verdicts
-      → judge (after_reply round server verdicts) None ≡ judged.Update named → P (asks c span.Commit (after_judgement (after_reply round server verdicts) None))
+      → P (stays c span.Commit (after_reply round server verdicts) (Some staple))
+  pub probed : (reply : VoteReply) (round : Round) (staple : Staple) (server : ServerId) (verdicts : List Verdict) → IsYes c mail reply round staple server verdicts
+      → list_any is_missing (after_reply round server verdicts).targets ≡ false → (after_reply round server verdicts).reads ≡ true → P (probes c (phase.Reading span.Commit (after_reply round server verdicts)))
+  pub updated : (round : Round) (staple : Option Staple) (reading : Option Reading) (named : List Wanted) → IsJudged c mail round staple reading
+      → judge round reading ≡ judged.Update named → P (asks c span.Commit (after_judgement round reading))
   pub acknowledged : (ack : AckReply) (ended : Outcome) (awaited : List ServerId) (server : ServerId) → IsAck c mail ack ended awaited server
       → P (sends (record c { phase = phase.Ending ended (without awaited server) }) [])
   pub inquired : (inquiry : InquireRequest) (ended : Outcome) (awaited : List ServerId) (server : ServerId) → IsInquiry c mail inquiry ended awaited server → P (sends c (decide_letters c ended (server ∷ [])))
 
 -- ---- Done
 
-next_by : (sc : Scenario) (c : Coordinator) (mail : Mail) (P : Effect Coordinator → Type 0) → CoordinatorCases sc c mail P → (done : DoneReply) (server : ServerId) (asked : Query) (value : ℤ) (next : Option ServerId)
-    → IsRanAnswer sc c mail done server asked value → move_after sc c done.query ≡ move.SendQuery → home_of sc c (next_number done.query) ≡ next
-    → P (sends_next sc c (with_deed c server done asked value) (next_number done.query) next)
-next_by sc c mail P cases done server asked value None k m e = cases.ignored
-next_by sc c mail P cases done server asked value (Some next) k m e = cases.sends_query done.query (gains_deed c server done asked value) next (QueryRan done server asked value k) m e
+next_by : (sc : Scenario) (c : Coordinator) (mail : Mail) (P : Effect Coordinator → Type 0) → CoordinatorCases sc c mail P → (query : ℕ) (now : Gained) (next : Option ServerId)
+    → IsPassed sc c mail (point.Ran query) now → move_after sc c query ≡ move.SendQuery → home_of sc c (next_number query) ≡ next
+    → P (sends_next sc c (with_gained c now) (next_number query) None next)
+next_by sc c mail P cases query now None k m e = cases.ignored
+next_by sc c mail P cases query now (Some next) k m e = cases.sends_query query now next k m e
 
-makes_by : (sc : Scenario) (c : Coordinator) (mail : Mail) (P : Effect Coordinator → Type 0) → CoordinatorCases sc c mail P → (done : DoneReply) (server : ServerId) (asked : Query) (value : ℤ) (next : Move)
-    → IsRanAnswer sc c mail done server asked value → move_after sc c done.query ≡ next → P (makes sc c (with_deed c server done asked value) done.query next)
-makes_by sc c mail P cases done server asked value move.SendQuery k m = next_by sc c mail P cases done server asked value (home_of sc c (next_number done.query)) k m refl
-makes_by sc c mail P cases done server asked value move.CommitRounds k m = cases.commit_rounds done.query (gains_deed c server done asked value) (QueryRan done server asked value k) m
-makes_by sc c mail P cases done server asked value _ k m = cases.ignored
+makes_by : (sc : Scenario) (c : Coordinator) (mail : Mail) (P : Effect Coordinator → Type 0) → CoordinatorCases sc c mail P → (query : ℕ) (now : Gained) (next : Move)
+    → IsPassed sc c mail (point.Ran query) now → move_after sc c query ≡ next → P (makes sc c (with_gained c now) query next)
+makes_by sc c mail P cases query now move.SendQuery k m = next_by sc c mail P cases query now (home_of sc c (next_number query)) k m refl
+makes_by sc c mail P cases query now move.Ask k m = cases.asks_staple query now k m
+makes_by sc c mail P cases query now move.CommitRounds k m = cases.commit_rounds query now k m
+makes_by sc c mail P cases query now _ k m = cases.ignored
 
 on_answer_by : (sc : Scenario) (c : Coordinator) (mail : Mail) (P : Effect Coordinator → Type 0) → CoordinatorCases sc c mail P → (done : DoneReply) (server : ServerId) (asked : Query) (given : Answer)
     → IsAwaitedAnswer sc c mail done server asked given → P (on_answer sc c (record { sent = mail.sent; server = server; done = done; query = asked }) given)
-on_answer_by sc c mail P cases done server asked (answer.Ran value None) k = makes_by sc c mail P cases done server asked value (move_after sc c done.query) k refl
+on_answer_by sc c mail P cases done server asked (answer.Ran value proof) k =
+    makes_by sc c mail P cases done.query (gains_deed c server done asked value proof) (move_after sc c done.query) (QueryRan done server asked value proof k) refl
+on_answer_by sc c mail P cases done server asked (answer.Denied verdict) k = cases.aborted (cause.Denied (denied_by verdict)) (ByDenial done server asked verdict k)
 on_answer_by sc c mail P cases done server asked (answer.Died other) k = cases.aborted (cause.Died (died_for server done other mail.sent)) (ByOlder done server asked other k)
 on_answer_by sc c mail P cases done server asked answer.Restarted k = cases.aborted (cause.Restarted server) (ByRestart done server asked k)
 on_answer_by sc c mail P cases done server asked _ k = cases.ignored
 
 on_done_from_by : (sc : Scenario) (c : Coordinator) (mail : Mail) (P : Effect Coordinator → Type 0) → CoordinatorCases sc c mail P → (done : DoneReply) (asked : Query) (server : Option ServerId)
-    → mail.letter.body ≡ body.Done done → awaits_query c c.phase done ≡ true → is_plain c.phase ≡ true → own_query sc c done.query ≡ Some asked → server_of sc asked ≡ server
+    → mail.letter.body ≡ body.Done done → awaits_query c c.phase done ≡ true → own_query sc c done.query ≡ Some asked → server_of sc asked ≡ server
     → P (on_done_from sc c mail.sent mail.letter.from done asked server)
-on_done_from_by sc c mail P cases done asked None e awaited plain asked_is server_is = cases.ignored
-on_done_from_by sc c mail P cases done asked (Some server) e awaited plain asked_is server_is =
+on_done_from_by sc c mail P cases done asked None e awaited asked_is server_is = cases.ignored
+on_done_from_by sc c mail P cases done asked (Some server) e awaited asked_is server_is =
     by_cond P (is_from mail.letter.from server)
     (λ from. on_answer_by sc c mail P cases done server asked done.answer
-    (record { said_is = e; from_is = from; awaited = awaited; plain = plain; asked_is = asked_is; server_is = server_is; answer_is = refl }))
+    (record { said_is = e; from_is = from; awaited = awaited; asked_is = asked_is; server_is = server_is; answer_is = refl }))
     (λ other. cases.ignored)
 
 asked_by : (sc : Scenario) (c : Coordinator) (mail : Mail) (P : Effect Coordinator → Type 0) → CoordinatorCases sc c mail P → (done : DoneReply) (asked : Option Query)
-    → mail.letter.body ≡ body.Done done → awaits_query c c.phase done ≡ true → is_plain c.phase ≡ true → own_query sc c done.query ≡ asked → P (on_done_of_query sc c mail.sent mail.letter.from done asked)
-asked_by sc c mail P cases done None e awaited plain asked_is = cases.ignored
-asked_by sc c mail P cases done (Some asked) e awaited plain asked_is = on_done_from_by sc c mail P cases done asked (server_of sc asked) e awaited plain asked_is refl
+    → mail.letter.body ≡ body.Done done → awaits_query c c.phase done ≡ true → own_query sc c done.query ≡ asked → P (on_done_of_query sc c mail.sent mail.letter.from done asked)
+asked_by sc c mail P cases done None e awaited asked_is = cases.ignored
+asked_by sc c mail P cases done (Some asked) e awaited asked_is = on_done_from_by sc c mail P cases done asked (server_of sc asked) e awaited asked_is refl
 
 -- ---- Tell
 
+stapled_by : (sc : Scenario) (c : Coordinator) (mail : Mail) (P : Effect Coordinator → Type 0) → CoordinatorCases sc c mail P → (tell : TellReply) (query : ℕ) (home : Option ServerId) → IsStapleOfQuery c mail tell query
+    → home_of sc c query ≡ home → P (sends_next sc c c query (Some (staple_of tell mail.sent)) home)
+stapled_by sc c mail P cases tell query None k e = cases.ignored
+stapled_by sc c mail P cases tell query (Some home) k e = cases.stapled tell query home k e
+
 on_staple_by : (sc : Scenario) (c : Coordinator) (mail : Mail) (P : Effect Coordinator → Type 0) → CoordinatorCases sc c mail P → (tell : TellReply) (awaited : Phase) → mail.letter.body ≡ body.Tell tell
-    → (tell.turn == c.turn) ≡ true → c.phase ≡ awaited → P (on_staple c awaited (staple_of tell mail.sent))
+    → (tell.turn == c.turn) ≡ true → c.phase ≡ awaited → P (on_staple sc c awaited (staple_of tell mail.sent))
+on_staple_by sc c mail P cases tell (phase.Stapling query) e present stapling =
+    stapled_by sc c mail P cases tell query (home_of sc c query) (record { said_is = e; present = present; stapling = stapling }) refl
 on_staple_by sc c mail P cases tell (phase.Asking span.Commit round) e present asking =
     cases.told tell round (record { said_is = e; present = present; asking = asking })
 on_staple_by sc c mail P cases tell _ e present asking = cases.ignored
 
 -- ---- Vote
 
-all_true_by : (sc : Scenario) (c : Coordinator) (mail : Mail) (P : Effect Coordinator → Type 0) → CoordinatorCases sc c mail P → (reply : VoteReply) (round : Round) (staple : Staple) (server : ServerId)
-    (verdicts : List Verdict) (next : Move) → IsYes c mail reply round staple server verdicts → judge (after_reply round server verdicts) None ≡ judged.AllTrue → move_at sc c point.Voted ≡ next
-    → P (on_all_true c span.Commit (after_reply round server verdicts) staple next)
-all_true_by sc c mail P cases reply round staple server verdicts move.Decide y e m =
-    cases.decides (instances_with c (by_query (proofs_in (after_reply round server verdicts).targets))) round.number (AllTrue reply round staple server verdicts (record { yes = y; all_true = e }))
-all_true_by sc c mail P cases reply round staple server verdicts _ y e m = cases.counted reply round staple server verdicts y
+-- a round that goes on to await what it awaits
+stays_by : (sc : Scenario) (c : Coordinator) (mail : Mail) (P : Effect Coordinator → Type 0) → CoordinatorCases sc c mail P → (round : Round) (staple : Option Staple) (reading : Option Reading)
+    → IsJudged c mail round staple reading → P (stays c span.Commit round staple)
+stays_by sc c mail P cases round staple reading (ByVotes reply before given server verdicts y missing unread) = cases.counted reply before given server verdicts y
+stays_by sc c mail P cases round staple reading (ByReading reply read k) = subst (λ (awaiting : Phase). P (sends (record c { phase = awaiting }) [])) k.reading cases.ignored
 
-judged_by : (sc : Scenario) (c : Coordinator) (mail : Mail) (P : Effect Coordinator → Type 0) → CoordinatorCases sc c mail P → (reply : VoteReply) (round : Round) (staple : Staple) (server : ServerId)
-    (verdicts : List Verdict) (answer_is : Judged) → IsYes c mail reply round staple server verdicts → judge (after_reply round server verdicts) None ≡ answer_is
-    → P (on_judged sc c span.Commit (after_reply round server verdicts) staple answer_is)
-judged_by sc c mail P cases reply round staple server verdicts judged.Waiting y e = cases.counted reply round staple server verdicts y
-judged_by sc c mail P cases reply round staple server verdicts judged.AllTrue y e = all_true_by sc c mail P cases reply round staple server verdicts (move_at sc c point.Voted) y e refl
-judged_by sc c mail P cases reply round staple server verdicts (judged.False verdict) y e = cases.aborted (cause.Denied (denied_by verdict)) (ByProof reply round staple server verdicts verdict y e)
-judged_by sc c mail P cases reply round staple server verdicts (judged.Spent mets) y e = absurd (unread_unspent (after_reply round server verdicts) mets e)
-judged_by sc c mail P cases reply round staple server verdicts (judged.Update named) y e = cases.updated reply round staple server verdicts named y e
+all_true_by : (sc : Scenario) (c : Coordinator) (mail : Mail) (P : Effect Coordinator → Type 0) → CoordinatorCases sc c mail P → (round : Round) (staple : Option Staple) (reading : Option Reading)
+    (next : Move) → IsJudged c mail round staple reading → judge round reading ≡ judged.AllTrue → P (on_all_true c span.Commit round staple reading next)
+all_true_by sc c mail P cases round staple reading move.Decide j e =
+    cases.decides (instances_with c (option_map place_of reading) (by_query (proofs_in round.targets))) round.number (AllTrue round staple reading (record { is_judged = j; all_true = e }))
+all_true_by sc c mail P cases round staple reading _ j e = stays_by sc c mail P cases round staple reading j
+
+-- as many rounds as may be have met a newer version: a round that reads no master meets none
+spent_by : (sc : Scenario) (c : Coordinator) (mail : Mail) (P : Effect Coordinator → Type 0) → CoordinatorCases sc c mail P → (round : Round) (staple : Option Staple) (reading : Option Reading)
+    (mets : List Met) → IsJudged c mail round staple reading → judge round reading ≡ judged.Spent mets → P (aborts c (cause.Rounds mets))
+spent_by sc c mail P cases round staple reading mets (ByVotes reply before given server verdicts y missing unread) e = absurd (unread_unspent (after_reply before server verdicts) mets e)
+spent_by sc c mail P cases round staple reading mets (ByReading reply read k) e = cases.aborted (cause.Rounds mets) (ByRounds reply read mets k e)
+
+judged_by : (sc : Scenario) (c : Coordinator) (mail : Mail) (P : Effect Coordinator → Type 0) → CoordinatorCases sc c mail P → (round : Round) (staple : Option Staple) (reading : Option Reading)
+    (answer_is : Judged) → IsJudged c mail round staple reading → judge round reading ≡ answer_is → P (on_judged sc c span.Commit round staple reading answer_is)
+judged_by sc c mail P cases round staple reading judged.Waiting j e = stays_by sc c mail P cases round staple reading j
+judged_by sc c mail P cases round staple reading judged.AllTrue j e = all_true_by sc c mail P cases round staple reading (move_at sc c point.Voted) j e
+judged_by sc c mail P cases round staple reading (judged.False verdict) j e = cases.aborted (cause.Denied (denied_by verdict)) (ByProof round staple reading verdict j e)
+judged_by sc c mail P cases round staple reading (judged.Spent mets) j e = spent_by sc c mail P cases round staple reading mets j e
+judged_by sc c mail P cases round staple reading (judged.Update named) j e = cases.updated round staple reading named j e
+
+-- a reply more: others are awaited, or the master is read, or the round is judged
+on_reply_by : (sc : Scenario) (c : Coordinator) (mail : Mail) (P : Effect Coordinator → Type 0) → CoordinatorCases sc c mail P → (reply : VoteReply) (round : Round) (staple : Staple) (server : ServerId)
+    (verdicts : List Verdict) → IsYes c mail reply round staple server verdicts → P (on_reply sc c span.Commit (after_reply round server verdicts) staple)
+on_reply_by sc c mail P cases reply round staple server verdicts y =
+    let now = after_reply round server verdicts in
+    by_cond P (list_any is_missing now.targets) (λ missing. cases.counted reply round staple server verdicts y)
+    (λ replied. by_cond P now.reads (λ reads. cases.probed reply round staple server verdicts y replied reads)
+    (λ unread. judged_by sc c mail P cases now (Some staple) None (judge now None) (ByVotes reply round staple server verdicts y replied unread) refl))
 
 on_no_by : (sc : Scenario) (c : Coordinator) (mail : Mail) (P : Effect Coordinator → Type 0) → CoordinatorCases sc c mail P → (reply : VoteReply) (round : Round) (staple : Staple) (server : ServerId) (why : No)
     → IsNo c mail reply round staple server why → P (on_no c server why)
@@ -221,7 +274,7 @@ on_vote_of_by : (sc : Scenario) (c : Coordinator) (mail : Mail) (P : Effect Coor
     → ((verdicts : List Verdict) → said ≡ vote.Yes verdicts → IsYes c mail reply round staple server verdicts)
     → ((why : No) → said ≡ vote.No why → IsNo c mail reply round staple server why) → P (on_vote_of sc c span.Commit round staple server said)
 on_vote_of_by sc c mail P cases reply round staple server (vote.Yes verdicts) y n =
-    judged_by sc c mail P cases reply round staple server verdicts (judge (after_reply round server verdicts) None) (y verdicts refl) refl
+    on_reply_by sc c mail P cases reply round staple server verdicts (y verdicts refl)
 on_vote_of_by sc c mail P cases reply round staple server (vote.No why) y n =
     on_no_by sc c mail P cases reply round staple server why (n why refl)
 
@@ -241,6 +294,15 @@ vote_by_sender sc c mail P cases reply (actor.Server server) e from =
     (λ now. let parts = and_parts (reply.turn == c.turn) (awaits_vote c.phase server) now in vote_by_phase sc c mail P cases reply c.phase server e from parts.0 refl parts.1)
     (λ other. cases.ignored)
 vote_by_sender sc c mail P cases reply _ e from = cases.ignored
+
+-- ---- Newest
+
+on_reading_by : (sc : Scenario) (c : Coordinator) (mail : Mail) (P : Effect Coordinator → Type 0) → CoordinatorCases sc c mail P → (reply : NewestReply) (awaited : Phase) → mail.letter.body ≡ body.Newest reply
+    → (reply.turn == c.turn) ≡ true → c.phase ≡ awaited → P (on_reading sc c awaited (reading_of reply mail.sent))
+on_reading_by sc c mail P cases reply (phase.Reading span.Commit round) e present reading =
+    let found = reading_of reply mail.sent in
+    judged_by sc c mail P cases round None (Some found) (judge round (Some found)) (ByReading reply round (record { said_is = e; present = present; reading = reading })) refl
+on_reading_by sc c mail P cases reply _ e present reading = cases.ignored
 
 -- ---- Ack
 
@@ -271,11 +333,11 @@ inquiry_by_phase sc c mail P cases inquiry _ e ending = cases.ignored
 said_by : (sc : Scenario) (c : Coordinator) (mail : Mail) (P : Effect Coordinator → Type 0) → CoordinatorCases sc c mail P → (said : Body) → mail.letter.body ≡ said
     → P (on_body sc c mail.sent mail.letter.from said)
 said_by sc c mail P cases (body.Done done) e =
-    by_cond P (awaits_query c c.phase done)
-    (λ awaited. by_cond P (is_plain c.phase) (λ plain. asked_by sc c mail P cases done (own_query sc c done.query) e awaited plain refl) (λ stapled. cases.ignored))
-    (λ other. cases.ignored)
+    by_cond P (awaits_query c c.phase done) (λ awaited. asked_by sc c mail P cases done (own_query sc c done.query) e awaited refl) (λ other. cases.ignored)
 said_by sc c mail P cases (body.Tell tell) e =
     by_cond P (tell.turn == c.turn) (λ present. on_staple_by sc c mail P cases tell c.phase e present refl) (λ late. cases.ignored)
+said_by sc c mail P cases (body.Newest reply) e =
+    by_cond P (reply.turn == c.turn) (λ present. on_reading_by sc c mail P cases reply c.phase e present refl) (λ late. cases.ignored)
 said_by sc c mail P cases (body.Vote reply) e = vote_by_sender sc c mail P cases reply mail.letter.from e refl
 said_by sc c mail P cases (body.Ack ack) e = ack_by_phase sc c mail P cases ack c.phase e refl
 said_by sc c mail P cases (body.Inquire inquiry) e = inquiry_by_phase sc c mail P cases inquiry c.phase e refl
@@ -290,39 +352,46 @@ coordinator_by sc c mail P cases = said_by sc c mail P cases mail.letter.body re
 -- what is to be shown of the outcomes of a submission
 pub record SubmitCases (sc : Scenario) (c : Coordinator) (P : Effect Coordinator → Type 0) : Type 0 where
   pub ignored : P (ignores c)
-  pub sent : (server : ServerId) → home_of sc c 1 ≡ Some server → P (sends_query sc c 1 server)
+  pub sent : (server : ServerId) → move_at sc c (point.Begun 1) ≡ move.SendQuery → home_of sc c 1 ≡ Some server → P (sends_query sc c 1 None server)
+  pub asked : move_at sc c (point.Begun 1) ≡ move.Ask → P (asks_in c (phase.Stapling 1))
 
-first_by : (sc : Scenario) (c : Coordinator) (P : Effect Coordinator → Type 0) → SubmitCases sc c P → (server : Option ServerId) → home_of sc c 1 ≡ server → P (sends_next sc c c 1 server)
-first_by sc c P cases None e = cases.ignored
-first_by sc c P cases (Some server) e = cases.sent server e
+first_by : (sc : Scenario) (c : Coordinator) (P : Effect Coordinator → Type 0) → SubmitCases sc c P → (server : Option ServerId) → move_at sc c (point.Begun 1) ≡ move.SendQuery → home_of sc c 1 ≡ server
+    → P (sends_next sc c c 1 None server)
+first_by sc c P cases None m e = cases.ignored
+first_by sc c P cases (Some server) m e = cases.sent server m e
 
-begins_by : (sc : Scenario) (c : Coordinator) (P : Effect Coordinator → Type 0) → SubmitCases sc c P → (first : Move) → P (begins sc c first)
-begins_by sc c P cases move.SendQuery = first_by sc c P cases (home_of sc c 1) refl
-begins_by sc c P cases _ = cases.ignored
+begins_by : (sc : Scenario) (c : Coordinator) (P : Effect Coordinator → Type 0) → SubmitCases sc c P → (first : Move) → move_at sc c (point.Begun 1) ≡ first → P (begins sc c first)
+begins_by sc c P cases move.SendQuery m = first_by sc c P cases (home_of sc c 1) m refl
+begins_by sc c P cases move.Ask m = cases.asked m
+begins_by sc c P cases _ m = cases.ignored
 
 pub submit_by : (sc : Scenario) (c : Coordinator) (P : Effect Coordinator → Type 0) → SubmitCases sc c P → P (submit_row sc c)
-submit_by sc c P cases = begins_by sc c P cases (move_at sc c (point.Begun 1))
+submit_by sc c P cases = begins_by sc c P cases (move_at sc c (point.Begun 1)) refl
 
 -- ---- timers
 
 -- what is to be shown of the letters of a timer, by the request that is outstanding
 pub record TimerCases (sc : Scenario) (c : Coordinator) (P : List Letter → Type 0) : Type 0 where
   pub silent : P []
-  pub queried : (number : ℕ) (server : ServerId) → c.phase ≡ phase.Querying number None → home_of sc c number ≡ Some server
-      → P (request c server (body.Query (query_request sc c c.turn server number)) ∷ [])
+  pub stapled : (number : ℕ) → c.phase ≡ phase.Stapling number → P (ask_letter c c.turn ∷ [])
+  pub queried : (number : ℕ) (staple : Option Staple) (server : ServerId) → c.phase ≡ phase.Querying number staple → home_of sc c number ≡ Some server
+      → P (request c server (body.Query (query_request sc c c.turn server number staple)) ∷ [])
   pub asked : (over : Span) (round : Round) → c.phase ≡ phase.Asking over round → P (ask_letter c c.turn ∷ [])
   pub prepared : (round : Round) (staple : Staple) → c.phase ≡ phase.Checking span.Commit round staple → P (map (prepare_letter c c.turn round staple) (awaited_in round))
+  pub read : (over : Span) (round : Round) → c.phase ≡ phase.Reading over round → P (probe_letter c c.turn ∷ [])
   pub ordered : (ended : Outcome) (awaited : List ServerId) → c.phase ≡ phase.Ending ended awaited → P (decide_letters c ended awaited)
 
-again_by : (sc : Scenario) (c : Coordinator) (P : List Letter → Type 0) → TimerCases sc c P → (number : ℕ) (server : Option ServerId) → c.phase ≡ phase.Querying number None → home_of sc c number ≡ server
-    → P (query_again sc c number server)
-again_by sc c P cases number None querying home = cases.silent
-again_by sc c P cases number (Some server) querying home = cases.queried number server querying home
+again_by : (sc : Scenario) (c : Coordinator) (P : List Letter → Type 0) → TimerCases sc c P → (number : ℕ) (staple : Option Staple) (server : Option ServerId) → c.phase ≡ phase.Querying number staple
+    → home_of sc c number ≡ server → P (query_again sc c number staple server)
+again_by sc c P cases number staple None querying home = cases.silent
+again_by sc c P cases number staple (Some server) querying home = cases.queried number staple server querying home
 
 repeats_by : (sc : Scenario) (c : Coordinator) (P : List Letter → Type 0) → TimerCases sc c P → (awaited : Phase) → c.phase ≡ awaited → P (repeats sc c awaited)
-repeats_by sc c P cases (phase.Querying number None) e = again_by sc c P cases number (home_of sc c number) e refl
+repeats_by sc c P cases (phase.Stapling number) e = cases.stapled number e
+repeats_by sc c P cases (phase.Querying number staple) e = again_by sc c P cases number staple (home_of sc c number) e refl
 repeats_by sc c P cases (phase.Asking over round) e = cases.asked over round e
 repeats_by sc c P cases (phase.Checking span.Commit round staple) e = cases.prepared round staple e
+repeats_by sc c P cases (phase.Reading over round) e = cases.read over round e
 repeats_by sc c P cases (phase.Ending ended awaited) e = cases.ordered ended awaited e
 repeats_by sc c P cases _ e = cases.silent
 

@@ -1,6 +1,6 @@
 -- A coordinator's rows: what it does when its transaction is submitted, on receipt of a mail, and at its timer. A reply is used
 -- only in the phase that awaits it, with the present turn, and once from each server; otherwise nothing happens.
-use Rattle.std.specs.List.{find}
+use Rattle.std.specs.List.{find, list_any}
 use Rattle.std.specs.Option.{option_flatten, option_map_or}
 use Rattle.std.specs.Prelude.{Bool, List, None, Option, Some, [], false, filter, if◌then◌else◌, map, not, length, min, option_and_then, option_map, replicate, slice_get, slice_set, true, unwrap_or, ℕ, ℤ, ◌&&◌, ◌++◌, ◌==◌, ◌∷◌}
 use Rattle.tp_types.specs.Effect.{Effect, ignores, logs, sends, unbuilt}
@@ -16,8 +16,8 @@ use Rattle.tp_model.specs.Words.level
 use Rattle.tp_model.specs.Words.log
 use Rattle.tp_model.specs.Words.no
 use Rattle.tp_model.specs.Words.vote
-use Rattle.tp_model.specs.Words.{Actor, AdminId, Answer, Body, Cause, CommitRecord, Decision, Denied, Died, DoneReply, Instance, Item, ItemId, Letter, Mail, No, OutOfRange, Outcome, PrepareRequest, Query, QueryRequest, Scenario, ServerId, Staple, TellReply, Transaction, TxnId, Verdict, Version, Vote, VoteReply}
-use Rattle.tp_model.specs.Levels.{reads_master}
+use Rattle.tp_model.specs.Words.{Actor, AdminId, Answer, Body, Cause, CommitRecord, Decision, Denied, Died, DoneReply, Instance, Item, ItemId, Letter, Level, Mail, NewestReply, No, OutOfRange, Outcome, PrepareRequest, Query, QueryRequest, Reading, Scenario, ServerId, Staple, TellReply, Transaction, TxnId, Verdict, Version, Vote, VoteReply}
+use Rattle.tp_model.specs.Levels.{is_global, reads_master}
 use Rattle.tp_model.specs.Limits.{admins_limit, count_limit, next_count, view_rounds}
 use Rattle.tp_model.specs.Deeds.{deed_of}
 use Rattle.tp_coord.specs.Sums.{asked_value}
@@ -124,42 +124,57 @@ value_of sc c number =
     option_and_then (λ (txn : Transaction). asked_value txn c.deeds number)
     (slice_get sc.txns c.txn.0)
 
--- the request of a turn for a query, with the value that it is asked with
-abbrev pub query_with : Coordinator → ℕ → ServerId → ℕ → Option ℤ → QueryRequest
-query_with c turn server number value = record {
+-- the request of a turn for a query, with the value that it is asked with, and the staple if it is proved as it runs
+abbrev pub query_with : Coordinator → ℕ → ServerId → ℕ → Option ℤ → Option Staple → QueryRequest
+query_with c turn server number value staple = record {
   txn = c.txn;
   turn = turn;
   query = number;
   age = c.age;
   epoch = epoch_told c server;
   value = value;
-  staple = None;
+  staple = staple;
   pin = None;
 }
 
-abbrev pub query_request : Scenario → Coordinator → ℕ → ServerId → ℕ → QueryRequest
-query_request sc c turn server number = query_with c turn server number (value_of sc c number)
+abbrev pub query_request : Scenario → Coordinator → ℕ → ServerId → ℕ → Option Staple → QueryRequest
+query_request sc c turn server number staple = query_with c turn server number (value_of sc c number) staple
 
 -- a query is sent to the server of its item
-abbrev pub sends_query : Scenario → Coordinator → ℕ → ServerId → Effect Coordinator
-sends_query sc c number server =
-    sends (record c { turn = next_turn c; phase = phase.Querying number None })
-    (request c server (body.Query (query_request sc c (next_turn c) server number)) ∷ [])
+abbrev pub sends_query : Scenario → Coordinator → ℕ → Option Staple → ServerId → Effect Coordinator
+sends_query sc c number staple server =
+    sends (record c { turn = next_turn c; phase = phase.Querying number staple })
+    (request c server (body.Query (query_request sc c (next_turn c) server number staple)) ∷ [])
 
 -- the server of the transaction's query of this number
 abbrev pub home_of : Scenario → Coordinator → ℕ → Option ServerId
 home_of sc c number = option_and_then (server_of sc) (own_query sc c number)
 
+-- the request of a turn to the authority
+abbrev pub ask_letter : Coordinator → ℕ → Letter
+ask_letter c turn = record {
+  from = actor.Coordinator c.txn;
+  to = actor.Authority;
+  body = body.Ask (record { txn = c.txn; turn = turn });
+}
+
+-- the authority is asked, for what the phase awaits
+abbrev pub asks_in : Coordinator → Phase → Effect Coordinator
+asks_in c awaiting =
+    sends (record c { turn = next_turn c; phase = awaiting }) (ask_letter c (next_turn c) ∷ [])
+
 -- ---- Submit
 
 -- a query is sent where it has a server; c is what the coordinator was, and now what it is by then
-abbrev pub sends_next : Scenario → Coordinator → Coordinator → ℕ → Option ServerId → Effect Coordinator
-sends_next sc c now number None = ignores c
-sends_next sc c now number (Some server) = sends_query sc now number server
+abbrev pub sends_next : Scenario → Coordinator → Coordinator → ℕ → Option Staple → Option ServerId
+    → Effect Coordinator
+sends_next sc c now number staple None = ignores c
+sends_next sc c now number staple (Some server) = sends_query sc now number staple server
 
--- the first query is sent, and the place where it is sent is its age. No transaction begins otherwise yet
+-- the first query is sent, or the authority is asked before it, and the place where that is sent is the age
 abbrev pub begins : Scenario → Coordinator → Move → Effect Coordinator
-begins sc c move.SendQuery = sends_next sc c c 1 (home_of sc c 1)
+begins sc c move.SendQuery = sends_next sc c c 1 None (home_of sc c 1)
+begins sc c move.Ask = asks_in c (phase.Stapling 1)
 begins sc c _ = ignores c
 
 -- what the submission of the transaction does
@@ -176,23 +191,47 @@ abbrev pub is_from : Actor → ServerId → Bool
 is_from (actor.Server server) asked = server.0 == asked.0
 is_from _ asked = false
 
--- the request of a turn to the authority
-abbrev pub ask_letter : Coordinator → ℕ → Letter
-ask_letter c turn = record {
-  from = actor.Coordinator c.txn;
-  to = actor.Authority;
-  body = body.Ask (record { txn = c.txn; turn = turn });
-}
-
 -- before each round of validation the authority is asked
 abbrev pub asks : Coordinator → Span → Round → Effect Coordinator
-asks c over round =
-    sends (record c { turn = next_turn c; phase = phase.Asking over round })
-    (ask_letter c (next_turn c) ∷ [])
+asks c over round = asks_in c (phase.Asking over round)
 
--- the first round at commit, of all of the transaction's servers. No master is read, and under view consistency two rounds are enough
-abbrev pub commit_round : Coordinator → Round
-commit_round c = first_round c.servers view_rounds (replicate admins_limit level.View) false
+-- the level that a transaction is run at: global where it reads the master
+abbrev pub level_read : Scenario → Transaction → Level
+level_read sc txn = if reads_master sc txn then level.Global else level.View
+
+abbrev pub level_at : Scenario → Coordinator → Level
+level_at sc c = option_map_or (level_read sc) (slice_get sc.txns c.txn.0) level.View
+
+-- in how many rounds a newer version may be met at the master. Where none is read, two rounds are enough
+abbrev pub limit_of : Scenario → Transaction → ℕ
+limit_of sc txn = if reads_master sc txn then txn.rounds else view_rounds
+
+abbrev pub limit_at : Scenario → Coordinator → ℕ
+limit_at sc c = option_map_or (limit_of sc) (slice_get sc.txns c.txn.0) view_rounds
+
+-- the first round at commit, of all of the transaction's servers
+abbrev pub commit_round : Scenario → Coordinator → Round
+commit_round sc c =
+    first_round c.servers (limit_at sc c) (replicate admins_limit (level_at sc c))
+    (is_global (level_at sc c))
+
+-- one instance more
+abbrev pub instances_with : Coordinator → Option ℕ → List Verdict → List Instance
+instances_with c reading proofs = c.instances ++ record { reading = reading; proofs = proofs } ∷ []
+
+-- a coordinator that has closed an instance of these proofs, with the place of the master's reading after them if there
+-- was one
+abbrev pub closes : Coordinator → Option ℕ → List Verdict → Coordinator
+closes c reading proofs = record c { instances = instances_with c reading proofs }
+
+-- the instances with the proof of a query that was proved as it ran, which is one of its own
+abbrev pub with_own : List Instance → Option Verdict → List Instance
+with_own instances None = instances
+with_own instances (Some verdict) = instances ++ record { reading = None; proofs = verdict ∷ [] } ∷ []
+
+-- a coordinator with the proof of such a query
+abbrev pub with_proof : Coordinator → Option Verdict → Coordinator
+with_proof c proof = record c { instances = with_own c.instances proof }
 
 -- a coordinator with the deed of a query that ran, and the epoch of its server
 abbrev pub with_deed : Coordinator → ServerId → DoneReply → Query → ℤ → Coordinator
@@ -206,8 +245,9 @@ with_deed c server done query value =
 -- yet does nothing, and leaves the coordinator as it was
 abbrev pub makes : Scenario → Coordinator → Coordinator → ℕ → Move → Effect Coordinator
 makes sc c now number move.SendQuery =
-    sends_next sc c now (next_number number) (home_of sc c (next_number number))
-makes sc c now number move.CommitRounds = asks now span.Commit (commit_round now)
+    sends_next sc c now (next_number number) None (home_of sc c (next_number number))
+makes sc c now number move.Ask = asks_in now (phase.Stapling (next_number number))
+makes sc c now number move.CommitRounds = asks now span.Commit (commit_round sc now)
 makes sc c now number _ = ignores c
 
 -- the transaction goes on after the query of this number
@@ -226,11 +266,23 @@ pub record QueryReply : Type 0 where
   pub done : DoneReply
   pub query : Query
 
--- by the answer: what ran is kept, and the transaction goes on; where an older one stood in the way, or what was done at the server was
--- lost, it aborts. Another answer that ends the transaction is not built
+-- what a false verdict denies
+abbrev pub denied_by : Verdict → Denied
+denied_by verdict =
+    record {
+      query = verdict.query;
+      server = verdict.server;
+      admin = verdict.admin;
+      version = verdict.version;
+      place = verdict.place;
+    }
+
+-- by the answer: what ran is kept, and the transaction goes on; where its proof is false, an older one stood in the
+-- way, or what was done at the server was lost, it aborts. Another answer that ends the transaction is not built
 abbrev pub on_answer : Scenario → Coordinator → QueryReply → Answer → Effect Coordinator
-on_answer sc c reply (answer.Ran value None) =
-    goes_on sc c (with_deed c reply.server reply.done reply.query value) reply.done.query
+on_answer sc c reply (answer.Ran value verdict) =
+    goes_on sc c (with_proof (with_deed c reply.server reply.done reply.query value) verdict) reply.done.query
+on_answer sc c reply (answer.Denied verdict) = aborts c (cause.Denied (denied_by verdict))
 on_answer sc c reply (answer.Died other) =
     aborts c (cause.Died (died_for reply.server reply.done other reply.sent))
 on_answer sc c reply answer.Restarted = aborts c (cause.Restarted reply.server)
@@ -256,17 +308,10 @@ abbrev pub awaits_query : Coordinator → Phase → DoneReply → Bool
 awaits_query c (phase.Querying number staple) done = (done.turn == c.turn) && (done.query == number)
 awaits_query c _ done = false
 
--- a query that was asked with a staple is not built
-abbrev pub is_plain : Phase → Bool
-is_plain (phase.Querying number (Some staple)) = false
-is_plain _ = true
-
 abbrev pub on_done : Scenario → Coordinator → Phase → ℕ → Actor → DoneReply → Effect Coordinator
 on_done sc c awaited sent from done =
     if awaits_query c awaited done
-    then (if is_plain awaited
     then on_done_of_query sc c sent from done (own_query sc c done.query)
-    else unbuilt c)
     else ignores c
 
 -- ---- Tell
@@ -310,23 +355,18 @@ prepares c over round staple =
     sends (record c { turn = next_turn c; phase = phase.Checking over round staple })
     (map (prepare_letter c (next_turn c) round staple) (awaited_in round))
 
--- the authority was asked before a round at commit
-abbrev pub on_staple : Coordinator → Phase → Staple → Effect Coordinator
-on_staple c (phase.Asking span.Commit round) staple = prepares c span.Commit round staple
-on_staple c _ staple = ignores c
+-- the authority was asked before a query, or before a round at commit
+abbrev pub on_staple : Scenario → Coordinator → Phase → Staple → Effect Coordinator
+on_staple sc c (phase.Stapling number) staple =
+    sends_next sc c c number (Some staple) (home_of sc c number)
+on_staple sc c (phase.Asking span.Commit round) staple = prepares c span.Commit round staple
+on_staple sc c _ staple = ignores c
 
-abbrev pub on_tell : Coordinator → Phase → ℕ → TellReply → Effect Coordinator
-on_tell c awaited sent tell =
-    if tell.turn == c.turn then on_staple c awaited (staple_of tell sent) else ignores c
+abbrev pub on_tell : Scenario → Coordinator → Phase → ℕ → TellReply → Effect Coordinator
+on_tell sc c awaited sent tell =
+    if tell.turn == c.turn then on_staple sc c awaited (staple_of tell sent) else ignores c
 
 -- ---- Vote
-
-abbrev pub instances_with : Coordinator → List Verdict → List Instance
-instances_with c proofs = c.instances ++ record { reading = None; proofs = proofs } ∷ []
-
--- a coordinator that has closed an instance of these proofs
-abbrev pub closes : Coordinator → List Verdict → Coordinator
-closes c proofs = record c { instances = instances_with c proofs }
 
 abbrev pub commit_record : Coordinator → ℕ → CommitRecord
 commit_record c rounds = record { rounds = rounds; instances = c.instances; deeds = c.deeds }
@@ -335,40 +375,57 @@ commit_record c rounds = record { rounds = rounds; instances = c.instances; deed
 abbrev pub commits : Coordinator → ℕ → Effect Coordinator
 commits c rounds = decides c Commit (decision.Commit (commit_record c rounds))
 
--- what a false verdict denies
-abbrev pub denied_by : Verdict → Denied
-denied_by verdict =
-    record {
-      query = verdict.query;
-      server = verdict.server;
-      admin = verdict.admin;
-      version = verdict.version;
-      place = verdict.place;
-    }
+-- what a round awaits: replies, with the staple that they are asked with, or a reading of the master
+abbrev pub phase_of : Span → Round → Option Staple → Phase
+phase_of over round (Some staple) = phase.Checking over round staple
+phase_of over round None = phase.Reading over round
 
--- the round has one more reply, and others are awaited
-abbrev pub counts : Coordinator → Span → Round → Staple → Effect Coordinator
-counts c over round staple = sends (record c { phase = phase.Checking over round staple }) []
+-- the round goes on to await what it awaits
+abbrev pub stays : Coordinator → Span → Round → Option Staple → Effect Coordinator
+stays c over round staple = sends (record c { phase = phase_of over round staple }) []
+
+abbrev pub place_of : Reading → ℕ
+place_of reading = reading.place
 
 -- all servers have voted YES, and all proofs are true, of one version each: the transaction commits. A move that has no row yet does
--- nothing but keep the reply
-abbrev pub on_all_true : Coordinator → Span → Round → Staple → Move → Effect Coordinator
-on_all_true c over round staple move.Decide =
-    commits (closes c (by_query (proofs_in round.targets))) round.number
-on_all_true c over round staple _ = counts c over round staple
+-- nothing
+abbrev pub on_all_true : Coordinator → Span → Round → Option Staple → Option Reading → Move
+    → Effect Coordinator
+on_all_true c over round staple reading move.Decide =
+    commits (closes c (option_map place_of reading) (by_query (proofs_in round.targets))) round.number
+on_all_true c over round staple reading _ = stays c over round staple
 
 -- by what is judged of the replies: a missing one is awaited, servers that are out of date are asked again as long as rounds are left, a
 -- false proof denies, and where all is true the table says what follows
-abbrev pub on_judged : Scenario → Coordinator → Span → Round → Staple → Judged → Effect Coordinator
-on_judged sc c over round staple judged.Waiting = counts c over round staple
-on_judged sc c over round staple (judged.Spent mets) = aborts c (cause.Rounds mets)
-on_judged sc c over round staple (judged.Update named) = asks c over (after_judgement round None)
-on_judged sc c over round staple (judged.False verdict) = aborts c (cause.Denied (denied_by verdict))
-on_judged sc c over round staple judged.AllTrue = on_all_true c over round staple (move_at sc c point.Voted)
+abbrev pub on_judged : Scenario → Coordinator → Span → Round → Option Staple → Option Reading → Judged
+    → Effect Coordinator
+on_judged sc c over round staple reading judged.Waiting = stays c over round staple
+on_judged sc c over round staple reading (judged.Spent mets) = aborts c (cause.Rounds mets)
+on_judged sc c over round staple reading (judged.Update named) = asks c over (after_judgement round reading)
+on_judged sc c over round staple reading (judged.False verdict) = aborts c (cause.Denied (denied_by verdict))
+on_judged sc c over round staple reading judged.AllTrue =
+    on_all_true c over round staple reading (move_at sc c point.Voted)
 
--- a round with one more reply is judged
+-- the request of a turn to the master
+abbrev pub probe_letter : Coordinator → ℕ → Letter
+probe_letter c turn = record {
+  from = actor.Coordinator c.txn;
+  to = actor.Master;
+  body = body.Probe (record { txn = c.txn; turn = turn });
+}
+
+-- the master is asked for the newest versions
+abbrev pub probes : Coordinator → Phase → Effect Coordinator
+probes c awaiting =
+    sends (record c { turn = next_turn c; phase = awaiting }) (probe_letter c (next_turn c) ∷ [])
+
+-- a round with one more reply: others are awaited; or all have replied, and the master is read first where the round
+-- reads it, or the round is judged
 abbrev pub on_reply : Scenario → Coordinator → Span → Round → Staple → Effect Coordinator
-on_reply sc c over round staple = on_judged sc c over round staple (judge round None)
+on_reply sc c over round staple =
+    if list_any is_missing round.targets then stays c over round (Some staple)
+    else if round.reads then probes c (phase.Reading over round)
+    else on_judged sc c over round (Some staple) None (judge round None)
 
 -- what a server's vote NO refuses
 abbrev pub refused_by : ServerId → ℕ → ℤ → OutOfRange
@@ -400,6 +457,22 @@ on_vote sc c awaited (actor.Server server) reply =
     else ignores c
 on_vote sc c awaited _ reply = ignores c
 
+-- ---- Newest
+
+-- what the master told, at the place where it was sent
+abbrev pub reading_of : NewestReply → ℕ → Reading
+reading_of reply sent = record { place = sent; newest = reply.newest }
+
+-- the master was asked once all of a round at commit had replied
+abbrev pub on_reading : Scenario → Coordinator → Phase → Reading → Effect Coordinator
+on_reading sc c (phase.Reading span.Commit round) reading =
+    on_judged sc c span.Commit round None (Some reading) (judge round (Some reading))
+on_reading sc c _ reading = ignores c
+
+abbrev pub on_newest : Scenario → Coordinator → Phase → ℕ → NewestReply → Effect Coordinator
+on_newest sc c awaited sent reply =
+    if reply.turn == c.turn then on_reading sc c awaited (reading_of reply sent) else ignores c
+
 -- ---- Ack
 
 abbrev pub without : List ServerId → ServerId → List ServerId
@@ -429,11 +502,11 @@ on_inquire c _ from = ignores c
 
 abbrev pub on_body : Scenario → Coordinator → ℕ → Actor → Body → Effect Coordinator
 on_body sc c sent from (body.Done done) = on_done sc c c.phase sent from done
-on_body sc c sent from (body.Tell tell) = on_tell c c.phase sent tell
+on_body sc c sent from (body.Tell tell) = on_tell sc c c.phase sent tell
 on_body sc c sent from (body.Vote reply) = on_vote sc c c.phase from reply
 on_body sc c sent from (body.Ack ack) = on_ack c c.phase from
 on_body sc c sent from (body.Verdicts reply) = unbuilt c
-on_body sc c sent from (body.Newest reply) = unbuilt c
+on_body sc c sent from (body.Newest reply) = on_newest sc c c.phase sent reply
 on_body sc c sent from (body.Inquire inquiry) = on_inquire c c.phase from
 on_body sc c sent from _ = ignores c
 
@@ -447,18 +520,20 @@ abbrev pub unbuilt_repeat : List Letter
 unbuilt_repeat = []
 
 -- a query is asked again where it has a server
-abbrev pub query_again : Scenario → Coordinator → ℕ → Option ServerId → List Letter
-query_again sc c number None = []
-query_again sc c number (Some server) =
-    request c server (body.Query (query_request sc c c.turn server number)) ∷ []
+abbrev pub query_again : Scenario → Coordinator → ℕ → Option Staple → Option ServerId → List Letter
+query_again sc c number staple None = []
+query_again sc c number staple (Some server) =
+    request c server (body.Query (query_request sc c c.turn server number staple)) ∷ []
 
 -- the request that is outstanding, in its own turn, to each from whom a reply is awaited
 abbrev pub repeats : Scenario → Coordinator → Phase → List Letter
 repeats sc c phase.Idle = []
-repeats sc c (phase.Querying number None) = query_again sc c number (home_of sc c number)
+repeats sc c (phase.Stapling number) = ask_letter c c.turn ∷ []
+repeats sc c (phase.Querying number staple) = query_again sc c number staple (home_of sc c number)
 repeats sc c (phase.Asking over round) = ask_letter c c.turn ∷ []
 repeats sc c (phase.Checking span.Commit round staple) =
     map (prepare_letter c c.turn round staple) (awaited_in round)
+repeats sc c (phase.Reading over round) = probe_letter c c.turn ∷ []
 repeats sc c (phase.Ending outcome awaited) = decide_letters c outcome awaited
 repeats sc c _ = unbuilt_repeat
 

@@ -10,6 +10,7 @@ ghost use Rattle.tp_types.specs.Effect.{Gives};
 ghost use Rattle.tp_coord.specs.Opened as opened;
 ghost use Rattle.tp_coord.specs.Row as row;
 
+use crate::decisions::denied_by;
 use crate::moves::move_of;
 use crate::sums::asked_value;
 use std::alloc::Global;
@@ -19,8 +20,8 @@ use tp_round::Round;
 use tp_scheme::{Move, Point};
 use tp_types::{
     Actor, Answer, Body, Cause, Deed, Died, DoneReply, Instance, Letter, List, Mail, NoMemory,
-    Outcome, Place, Query, QueryRequest, Reaction, Scenario, ServerId, Staple, TxnId, Verdict,
-    both, ignored, none_for_each, sent_alone, unbuilt,
+    Outcome, Place, Query, QueryRequest, Reaction, Scenario, ServerId, Staple, TryClone, TxnId,
+    Verdict, both, ignored, none_for_each, sent_alone, unbuilt,
 };
 
 /// What a round is over. No round is over the queries so far yet.
@@ -37,7 +38,7 @@ pub enum Span {
 #[derive(Drop)]
 pub enum Phase {
     Idle,
-    /// The authority was asked before a query. No coordinator asks it there yet.
+    /// The authority was asked before a query.
     Stapling {
         query: u32,
     },
@@ -61,7 +62,7 @@ pub enum Phase {
         round: Round,
         staple: Staple,
     },
-    /// All servers of a round have replied, and the master was asked. No coordinator asks it yet.
+    /// All servers of a round have replied, and the master was asked.
     Reading {
         span: Span,
         round: Round,
@@ -143,12 +144,30 @@ impl Coordinator {
         ensures { IfOk result (λ reaction.
             Gives (row.submit_row scenario.now self.old) self.new reaction) }
     {
-        if self.move_at(scenario, Point::Begun { query: 1 }) != Move::SendQuery {
-            return Ok(ignored(alloc));
+        match self.move_at(scenario, Point::Begun { query: 1 }) {
+            Move::SendQuery => self.sends_next(alloc, scenario, 1, None),
+            Move::Ask => self.asks_in(alloc, Phase::Stapling { query: 1 }),
+            _ => Ok(ignored(alloc)),
         }
-        match self.home_of(scenario, 1) {
+    }
+
+    /// A query is sent, with the staple if it is proved as it runs, where it has a server.
+    pub(crate) fn sends_next(
+        &mut self,
+        alloc: Global,
+        scenario: &Scenario,
+        number: u32,
+        staple: Option<Staple>,
+    ) -> Result<Reaction, NoMemory>
+        ensures { IfOk result (λ reaction.
+            Gives
+            (row.sends_next scenario.now self.old self.old number staple
+            (row.home_of scenario.now self.old number))
+            self.new reaction) }
+    {
+        match self.home_of(scenario, number) {
             None => Ok(ignored(alloc)),
-            Some(server) => self.sends_query(alloc, scenario, 1, server),
+            Some(server) => self.sends_query(alloc, scenario, number, staple, server),
         }
     }
 
@@ -186,11 +205,12 @@ impl Coordinator {
         let from = mail.letter.from;
         match &mail.letter.body {
             Body::Done(done) => self.on_done(alloc, scenario, mail.sent, from, done),
-            Body::Tell(tell) => self.on_tell(alloc, mail.sent, tell),
+            Body::Tell(tell) => self.on_tell(alloc, scenario, mail.sent, tell),
             Body::Vote(reply) => self.on_vote(alloc, scenario, from, reply),
             Body::Ack(_) => self.on_ack(alloc, from),
             Body::Inquire(_) => self.on_inquire(alloc, from),
-            Body::Verdicts(_) | Body::Newest(_) => Ok(unbuilt(alloc)),
+            Body::Newest(reply) => self.on_newest(alloc, scenario, mail.sent, reply),
+            Body::Verdicts(_) => Ok(unbuilt(alloc)),
             _ => Ok(ignored(alloc)),
         }
     }
@@ -274,16 +294,18 @@ impl Coordinator {
         alloc: Global,
         scenario: &Scenario,
         number: u32,
+        staple: Option<Staple>,
         server: ServerId,
     ) -> Result<Reaction, NoMemory>
         ensures { IfOk result (λ reaction.
-            Gives (row.sends_query scenario.now self.old number server) self.new reaction) }
+            Gives (row.sends_query scenario.now self.old number staple server) self.new reaction) }
     {
-        let value = self.value_of(alloc, scenario, number)?;
-        let letter = self.query_letter(self.next_turn(), server, number, value);
+        let value = self.value_of(alloc, scenario, number);
+        let (value, sent) = both(value, staple.try_clone(alloc))?;
+        let letter = self.query_letter(self.next_turn(), server, number, value, sent);
         self.awaits(Phase::Querying {
             query: number,
-            staple: None,
+            staple,
         });
         sent_alone(alloc, letter)
     }
@@ -294,9 +316,10 @@ impl Coordinator {
         server: ServerId,
         number: u32,
         value: Option<i128>,
+        staple: Option<Staple>,
     ) -> Letter
         ensures { result ≡ row.request self.now server
-            (body.Query (row.query_with self.now turn server number value)) }
+            (body.Query (row.query_with self.now turn server number value staple)) }
     {
         let query = QueryRequest {
             txn: self.txn,
@@ -305,7 +328,7 @@ impl Coordinator {
             age: self.age,
             epoch: self.epoch_told(server),
             value,
-            staple: None,
+            staple,
             pin: None,
         };
         self.request(server, Body::Query(query))
@@ -334,7 +357,7 @@ impl Coordinator {
         }
     }
 
-    /// A query ran: the table is asked what follows before its deed is kept.
+    /// A query ran: the table is asked what follows before its deed is kept, and its proof if it has one.
     fn goes_on(
         &mut self,
         alloc: Global,
@@ -343,19 +366,25 @@ impl Coordinator {
         done: &DoneReply,
         query: &Query,
         value: i128,
+        verdict: &Option<Verdict>,
     ) -> Result<Reaction, NoMemory>
         ensures { IfOk result (λ reaction.
             Gives
             (row.goes_on scenario.now self.old
-            (row.with_deed self.old server done.now query.now value)
+            (row.with_proof (row.with_deed self.old server done.now query.now value) verdict.now)
             done.now.query)
             self.new reaction) }
     {
         match self.move_after(scenario, done.query) {
-            Move::SendQuery => self.runs_next(alloc, scenario, server, done, query, value),
+            Move::SendQuery => self.runs_next(alloc, scenario, server, done, query, value, verdict),
+            Move::Ask => {
+                self.ran(alloc, server, done, query, value, verdict)?;
+                let query = done.query.saturating_add(1);
+                self.asks_in(alloc, Phase::Stapling { query })
+            }
             Move::CommitRounds => {
-                self.ran(server, done, query, value)?;
-                self.begins_rounds(alloc)
+                self.ran(alloc, server, done, query, value, verdict)?;
+                self.begins_rounds(alloc, scenario)
             }
             _ => Ok(ignored(alloc)),
         }
@@ -370,12 +399,14 @@ impl Coordinator {
         done: &DoneReply,
         query: &Query,
         value: i128,
+        verdict: &Option<Verdict>,
     ) -> Result<Reaction, NoMemory>
         ensures { IfOk result (λ reaction.
             Gives
             (row.sends_next scenario.now self.old
-            (row.with_deed self.old server done.now query.now value)
+            (row.with_proof (row.with_deed self.old server done.now query.now value) verdict.now)
             (row.next_number done.now.query)
+            None
             (row.home_of scenario.now self.old (row.next_number done.now.query)))
             self.new reaction) }
     {
@@ -383,8 +414,8 @@ impl Coordinator {
         match self.home_of(scenario, next) {
             None => Ok(ignored(alloc)),
             Some(home) => {
-                self.ran(server, done, query, value)?;
-                self.sends_query(alloc, scenario, next, home)
+                self.ran(alloc, server, done, query, value, verdict)?;
+                self.sends_query(alloc, scenario, next, None, home)
             }
         }
     }
@@ -404,9 +435,6 @@ impl Coordinator {
     {
         if !self.awaits_query(done) {
             return Ok(ignored(alloc));
-        }
-        if !is_plain(&self.phase) {
-            return Ok(unbuilt(alloc));
         }
         let Some(query) = self.query_of(scenario, done.query) else {
             return Ok(ignored(alloc));
@@ -436,10 +464,10 @@ impl Coordinator {
             self.new reaction) }
     {
         match &done.answer {
-            Answer::Ran {
-                value,
-                verdict: None,
-            } => self.goes_on(alloc, scenario, server, done, query, *value),
+            Answer::Ran { value, verdict } => {
+                self.goes_on(alloc, scenario, server, done, query, *value, verdict)
+            }
+            Answer::Denied { verdict } => self.aborts(alloc, Cause::Denied(denied_by(verdict))),
             Answer::Died { other } => {
                 let died = Died {
                     query: done.query,
@@ -465,16 +493,40 @@ impl Coordinator {
 
     fn ran(
         &mut self,
+        alloc: Global,
         server: ServerId,
         done: &DoneReply,
         query: &Query,
         value: i128,
+        verdict: &Option<Verdict>,
     ) -> Result<(), NoMemory>
-        ensures { OnOk result (self.new ≡ row.with_deed self.old server done.now query.now value) }
+        ensures { OnOk result
+            (self.new
+            ≡ row.with_proof (row.with_deed self.old server done.now query.now value) verdict.now) }
     {
         self.deeds.push(deed_of(done.query, query, value))?;
         self.epochs.put(server.0 as usize, Some(done.epoch));
-        Ok(())
+        keeps_proof(alloc, &mut self.instances, verdict)
+    }
+}
+
+/// The proof of a query that was proved as it ran is an instance of its own.
+fn keeps_proof(
+    alloc: Global,
+    instances: &mut List<Instance>,
+    verdict: &Option<Verdict>,
+) -> Result<(), NoMemory>
+    ensures { OnOk result (instances.new ≡ row.with_own instances.old verdict.now) }
+{
+    match verdict {
+        None => Ok(()),
+        Some(verdict) => {
+            let proofs = List::of_one(alloc, verdict.try_clone(alloc)?)?;
+            instances.push(Instance {
+                reading: None,
+                proofs,
+            })
+        }
     }
 }
 
@@ -516,18 +568,5 @@ fn is_done(phase: &Phase) -> bool
             awaited,
         } => awaited.is_empty(),
         _ => false,
-    }
-}
-
-/// Whether no query that was asked with a staple is awaited.
-fn is_plain(phase: &Phase) -> bool
-    ensures { result ≡ row.is_plain phase.now }
-{
-    match phase {
-        Phase::Querying {
-            staple: Some(_),
-            ..
-        } => false,
-        _ => true,
     }
 }

@@ -12,8 +12,8 @@ use std::alloc::Global;
 use tp_round::Round;
 use tp_types::{
     Actor, Body, Cause, CommitRecord, DecideRequest, Decided, Decision, Denied, Instance, Letter,
-    List, NoMemory, Outcome, Reaction, Record, ServerId, TryClone, Verdict, both, ignored, nothing,
-    sent_alone,
+    List, NoMemory, Outcome, Place, Reaction, Record, ServerId, TryClone, Verdict, both, ignored,
+    nothing, sent_alone,
 };
 
 impl Coordinator {
@@ -23,17 +23,23 @@ impl Coordinator {
         self.decides(alloc, Outcome::Abort, Decision::Abort(why))
     }
 
-    /// The transaction commits on the proofs of a round, which close an instance.
-    pub(crate) fn commits(&mut self, alloc: Global, round: &Round) -> Result<Reaction, NoMemory>
+    /// The transaction commits on the proofs of a round, which close an instance, with the place of the reading after
+    /// them.
+    pub(crate) fn commits(
+        &mut self,
+        alloc: Global,
+        round: &Round,
+        reading: Option<Place>,
+    ) -> Result<Reaction, NoMemory>
         ensures { IfOk result (λ reaction.
             Gives
             (row.commits
-            (row.closes self.old (replies.by_query (replies.proofs_in round.now.targets)))
+            (row.closes self.old reading (replies.by_query (replies.proofs_in round.now.targets)))
             round.now.number)
             self.new reaction) }
     {
         self.instances.push(Instance {
-            reading: None,
+            reading,
             proofs: round.proofs(alloc)?,
         })?;
         let commit = CommitRecord {

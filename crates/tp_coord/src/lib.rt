@@ -15,6 +15,7 @@ mod booted;
 mod coordinator;
 mod decisions;
 mod moves;
+mod readings;
 mod rounds;
 mod sums;
 mod timers;

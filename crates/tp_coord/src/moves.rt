@@ -1,20 +1,30 @@
 //! What a coordinator's transaction does at a point, by the table of moves.
 ghost use Rattle.std.specs.Prelude.{◌≡◌};
-ghost use Rattle.tp_model.specs.Levels.{is_global, reads_master};
 ghost use Rattle.tp_coord.specs.Row as row;
 
-use tp_model::reads_master;
+use tp_model::{VIEW_ROUNDS, reads_master};
 use tp_scheme::{Move, Point, next_move};
 use tp_types::{Level, Scenario, Transaction};
 
 /// The level that a transaction is run at: global where it reads the master.
-fn level_read(scenario: &Scenario, txn: &Transaction) -> Level
-    ensures { is_global result ≡ reads_master scenario.now txn.now }
+pub(crate) fn level_read(scenario: &Scenario, txn: &Transaction) -> Level
+    ensures { result ≡ row.level_read scenario.now txn.now }
 {
     if reads_master(scenario, txn) {
         Level::Global
     } else {
         Level::View
+    }
+}
+
+/// In how many rounds a newer version may be met at the master.
+pub(crate) fn limit_of(scenario: &Scenario, txn: &Transaction) -> u32
+    ensures { result ≡ row.limit_of scenario.now txn.now }
+{
+    if reads_master(scenario, txn) {
+        txn.rounds
+    } else {
+        VIEW_ROUNDS
     }
 }
 

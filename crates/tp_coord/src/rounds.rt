@@ -1,5 +1,5 @@
 //! A coordinator's rounds of validation: the authority is asked, then the servers are to prepare, and their votes are judged.
-ghost use Rattle.std.specs.Prelude.{◌≡◌, Option, Some, None, [], map, IfOk, OnOk};
+ghost use Rattle.std.specs.Prelude.{◌≡◌, Option, Some, None, [], map, option_map, IfOk, OnOk};
 ghost use Rattle.std.specs.List.{find};
 ghost use Rattle.std.specs.Option.{option_copied};
 ghost use Rattle.tp_model.specs.Ids.{same_server};
@@ -14,6 +14,7 @@ ghost use Rattle.tp_coord.specs.Row as row;
 
 use crate::coordinator::{Coordinator, Phase, Span};
 use crate::decisions::denied_by;
+use crate::moves::{level_read, limit_of};
 use std::alloc::Global;
 use std::mem;
 use tp_model::VIEW_ROUNDS;
@@ -21,26 +22,62 @@ use tp_round::{Judged, Round, Wanted};
 use tp_scheme::{Move, Point};
 use tp_types::{
     Actor, AdminId, AskRequest, Body, Cause, Letter, Level, List, No, NoMemory, OutOfRange, Place,
-    PrepareRequest, Reaction, Scenario, ServerId, Staple, TellReply, TryClone, Verdict, Version,
-    Vote, VoteReply, ignored, nothing, sent_alone,
+    PrepareRequest, Reaction, Reading, Scenario, ServerId, Staple, TellReply, TryClone, Verdict,
+    Version, Vote, VoteReply, ignored, nothing, sent_alone,
 };
 
 impl Coordinator {
     /// All queries ran: the first round at commit, of all of the transaction's servers.
-    pub(crate) fn begins_rounds(&mut self, alloc: Global) -> Result<Reaction, NoMemory>
+    pub(crate) fn begins_rounds(
+        &mut self,
+        alloc: Global,
+        scenario: &Scenario,
+    ) -> Result<Reaction, NoMemory>
         ensures { IfOk result (λ reaction.
-            Gives (row.asks self.old Span.Commit (row.commit_round self.old)) self.new reaction) }
+            Gives (row.asks self.old Span.Commit (row.commit_round scenario.now self.old)) self.new reaction) }
     {
-        let round = Round::start(alloc, self.servers.as_slice(), VIEW_ROUNDS, Level::View)?;
+        let limit = self.limit_at(scenario);
+        let level = self.level_at(scenario);
+        let round = Round::start(alloc, self.servers.as_slice(), limit, level)?;
         self.asks(alloc, Span::Commit, round)
     }
 
+    fn level_at(&self, scenario: &Scenario) -> Level
+        ensures { result ≡ row.level_at scenario.now self.now }
+    {
+        match scenario.txns.get(self.txn.0 as usize) {
+            None => Level::View,
+            Some(txn) => level_read(scenario, txn),
+        }
+    }
+
+    fn limit_at(&self, scenario: &Scenario) -> u32
+        ensures { result ≡ row.limit_at scenario.now self.now }
+    {
+        match scenario.txns.get(self.txn.0 as usize) {
+            None => VIEW_ROUNDS,
+            Some(txn) => limit_of(scenario, txn),
+        }
+    }
+
     /// Before each round the authority is asked.
-    fn asks(&mut self, alloc: Global, span: Span, round: Round) -> Result<Reaction, NoMemory>
+    pub(crate) fn asks(
+        &mut self,
+        alloc: Global,
+        span: Span,
+        round: Round,
+    ) -> Result<Reaction, NoMemory>
         ensures { IfOk result (λ reaction. Gives (row.asks self.old span round) self.new reaction) }
     {
+        self.asks_in(alloc, Phase::Asking { span, round })
+    }
+
+    /// The authority is asked, for what the phase awaits.
+    pub(crate) fn asks_in(&mut self, alloc: Global, phase: Phase) -> Result<Reaction, NoMemory>
+        ensures { IfOk result (λ reaction. Gives (row.asks_in self.old phase) self.new reaction) }
+    {
         let letter = self.ask_letter(self.next_turn());
-        self.awaits(Phase::Asking { span, round });
+        self.awaits(phase);
         sent_alone(alloc, letter)
     }
 
@@ -109,14 +146,19 @@ impl Coordinator {
     pub(crate) fn on_tell(
         &mut self,
         alloc: Global,
+        scenario: &Scenario,
         sent: Place,
         tell: &TellReply,
     ) -> Result<Reaction, NoMemory>
         ensures { IfOk result (λ reaction.
-            Gives (row.on_tell self.old self.old.phase sent tell.now) self.new reaction) }
+            Gives (row.on_tell scenario.now self.old self.old.phase sent tell.now) self.new reaction) }
     {
         if tell.turn != self.turn {
             return Ok(ignored(alloc));
+        }
+        if let Phase::Stapling { query } = self.phase {
+            let staple = staple_of(alloc, sent, tell)?;
+            return self.sends_next(alloc, scenario, query, Some(staple));
         }
         match mem::replace(&mut self.phase, Phase::Idle) {
             Phase::Asking {
@@ -238,19 +280,24 @@ impl Coordinator {
         }
     }
 
-    /// Other votes of the round are awaited.
-    fn awaits_more(&mut self, alloc: Global, round: Round, staple: Staple) -> Reaction
-        ensures { Gives (row.counts self.old Span.Commit round staple) self.new result }
+    /// The round goes on to await what it awaits.
+    fn stays(&mut self, alloc: Global, round: Round, staple: Option<Staple>) -> Reaction
+        ensures { Gives (row.stays self.old Span.Commit round staple) self.new result }
     {
-        self.enters(Phase::Checking {
-            span: Span::Commit,
-            round,
-            staple,
+        let span = Span::Commit;
+        self.enters(match staple {
+            Some(staple) => Phase::Checking {
+                span,
+                round,
+                staple,
+            },
+            None => Phase::Reading { span, round },
         });
         nothing(alloc)
     }
 
-    /// A vote YES of a server that is awaited: the round is judged with it.
+    /// A vote YES of a server that is awaited: once all have voted the master is read where the round reads it, and
+    /// else the round is judged.
     fn voted(
         &mut self,
         alloc: Global,
@@ -267,12 +314,40 @@ impl Coordinator {
             self.new reaction) }
     {
         let mut round = round;
-        match judged_with(alloc, &mut round, server, verdicts)? {
-            Judged::Waiting => Ok(self.awaits_more(alloc, round, staple)),
+        counts(alloc, &mut round, server, verdicts)?;
+        if round.awaits_any() {
+            return Ok(self.stays(alloc, round, Some(staple)));
+        }
+        if round.reads {
+            let span = Span::Commit;
+            return self.probes(alloc, Phase::Reading { span, round });
+        }
+        self.judged(alloc, scenario, round, Some(staple), None)
+    }
+
+    /// What follows from the replies of a round, and from the reading of the master where there was one.
+    pub(crate) fn judged(
+        &mut self,
+        alloc: Global,
+        scenario: &Scenario,
+        round: Round,
+        staple: Option<Staple>,
+        reading: Option<&Reading>,
+    ) -> Result<Reaction, NoMemory>
+        ensures { IfOk result (λ reaction.
+            Gives
+            (row.on_judged scenario.now self.old Span.Commit round staple
+            (option_copied reading.entry)
+            (judge.judge round (option_copied reading.entry)))
+            self.new reaction) }
+    {
+        let mut round = round;
+        match round.judge(alloc, reading)? {
+            Judged::Waiting => Ok(self.stays(alloc, round, staple)),
             Judged::Spent(mets) => self.aborts(alloc, Cause::Rounds(mets)),
             Judged::Update(_) => self.asks(alloc, Span::Commit, round),
             Judged::False { verdict } => self.aborts(alloc, Cause::Denied(denied_by(&verdict))),
-            Judged::AllTrue => self.all_true(alloc, scenario, round, staple),
+            Judged::AllTrue => self.all_true(alloc, scenario, round, staple, reading),
         }
     }
 
@@ -282,36 +357,41 @@ impl Coordinator {
         alloc: Global,
         scenario: &Scenario,
         round: Round,
-        staple: Staple,
+        staple: Option<Staple>,
+        reading: Option<&Reading>,
     ) -> Result<Reaction, NoMemory>
         ensures { IfOk result (λ reaction.
             Gives
-            (row.on_all_true self.old Span.Commit round staple
+            (row.on_all_true self.old Span.Commit round staple (option_copied reading.entry)
             (row.move_at scenario.now self.old Point.Voted))
             self.new reaction) }
     {
         match self.move_at(scenario, Point::Voted) {
-            Move::Decide => self.commits(alloc, &round),
-            _ => Ok(self.awaits_more(alloc, round, staple)),
+            Move::Decide => self.commits(alloc, &round, place_of(reading)),
+            _ => Ok(self.stays(alloc, round, staple)),
         }
     }
 }
 
-/// A reply comes into its round, which is judged with it.
-fn judged_with(
+/// A reply comes into its round.
+fn counts(
     alloc: Global,
     round: &mut Round,
     server: ServerId,
     verdicts: &List<Verdict>,
-) -> Result<Judged, NoMemory>
-    ensures answer { IfOk result (λ judged.
-        judged ≡ judge.judge (judge.after_reply round.old server verdicts.now) None) }
-    ensures next { OnOk result
-        (round.new ≡ judge.after_judgement (judge.after_reply round.old server verdicts.now) None) }
+) -> Result<(), NoMemory>
+    ensures { OnOk result (round.new ≡ judge.after_reply round.old server verdicts.now) }
 {
     let verdicts = verdicts.try_clone(alloc)?;
     round.reply(server, verdicts);
-    round.judge(alloc, None)
+    Ok(())
+}
+
+/// The place of a reading.
+fn place_of(reading: Option<&Reading>) -> Option<Place>
+    ensures { result ≡ option_map row.place_of (option_copied reading.entry) }
+{
+    reading.map(|read| read.place)
 }
 
 /// What the authority told, at the place where it was sent.

@@ -6,7 +6,7 @@ ghost use Rattle.tp_coord.specs.Row as row;
 
 use crate::coordinator::{Coordinator, Phase, Span};
 use std::alloc::Global;
-use tp_types::{Letter, List, NoMemory, Reaction, Scenario};
+use tp_types::{Letter, List, NoMemory, Reaction, Scenario, Staple, TryClone, both};
 
 impl Coordinator {
     /// Sends the outstanding request again, to each from whom a reply is awaited. Before the submission, and when all servers
@@ -28,16 +28,17 @@ impl Coordinator {
         match &self.phase {
             // nothing is outstanding before the submission
             Phase::Idle => Ok(List::new(alloc)),
-            Phase::Querying {
-                query,
-                staple: None,
-            } => self.query_again(alloc, scenario, *query),
-            Phase::Asking { .. } => List::of_one(alloc, self.ask_letter(self.turn)),
+            Phase::Querying { query, staple } => self.query_again(alloc, scenario, *query, staple),
+            Phase::Stapling { .. } | Phase::Asking { .. } => List::of_one(
+                alloc,
+                self.ask_letter(self.turn),
+            ),
             Phase::Checking {
                 span: Span::Commit,
                 round,
                 staple,
             } => self.prepare_letters(alloc, self.turn, round, staple),
+            Phase::Reading { .. } => List::of_one(alloc, self.probe_letter(self.turn)),
             Phase::Ending { outcome, awaited } => {
                 self.decide_letters(alloc, *outcome, awaited.as_slice())
             }
@@ -51,17 +52,20 @@ impl Coordinator {
         alloc: Global,
         scenario: &Scenario,
         number: u32,
+        staple: &Option<Staple>,
     ) -> Result<List<Letter>, NoMemory>
         ensures { IfOk result (λ letters.
             letters
-            ≡ row.query_again scenario.now self.now number
+            ≡ row.query_again scenario.now self.now number staple.now
             (row.home_of scenario.now self.now number)) }
     {
         match self.home_of(scenario, number) {
             None => Ok(List::new(alloc)),
             Some(server) => {
-                let value = self.value_of(alloc, scenario, number)?;
-                List::of_one(alloc, self.query_letter(self.turn, server, number, value))
+                let value = self.value_of(alloc, scenario, number);
+                let (value, staple) = both(value, staple.try_clone(alloc))?;
+                let letter = self.query_letter(self.turn, server, number, value, staple);
+                List::of_one(alloc, letter)
             }
         }
     }

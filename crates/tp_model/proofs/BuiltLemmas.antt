@@ -13,6 +13,6 @@ plain_at [] n txn h e = absurd (cc)
 plain_at (first ∷ others) zero txn h e = subst (λ (t : Transaction). is_plain_txn t ≡ true) (same_Some first txn e) (and_parts (is_plain_txn first) (list_all is_plain_txn others) h).0
 plain_at (first ∷ others) (suc n) txn h e = plain_at others n txn (and_parts (is_plain_txn first) (list_all is_plain_txn others) h).1 e
 
--- each transaction is deferred, under view
+-- each transaction is deferred or punctual
 pub plain_built : (sc : Scenario) (n : ℕ) (txn : Transaction) → is_built sc ≡ true → slice_get sc.txns n ≡ Some txn → is_plain_txn txn ≡ true
 plain_built sc n txn h e = plain_at sc.txns n txn (stage_built sc h) e

@@ -1,21 +1,19 @@
--- What of a valid scenario is built so far: transactions that are deferred under view, and every step. It widens as more is built, and then is no condition any more.
-use Rattle.std.specs.Prelude.{◌&&◌, List, Bool, true, false}
+-- What of a valid scenario is built so far: transactions that are deferred or punctual, under either level, and every
+-- step. It widens as more is built, and then is no condition any more.
+use Rattle.std.specs.Prelude.{List, Bool, true, false}
 use Rattle.std.specs.List.{list_all}
-use Rattle.tp_model.specs.Words.{Level, Scenario, Scheme, Transaction}
-use Rattle.tp_model.specs.Words.level
+use Rattle.tp_model.specs.Words.{Scenario, Scheme, Transaction}
 use Rattle.tp_model.specs.Words.scheme
 
-abbrev pub is_deferred : Scheme → Bool
-is_deferred scheme.Deferred = true
-is_deferred _ = false
+-- the scheme is deferred or punctual
+abbrev pub is_plain_scheme : Scheme → Bool
+is_plain_scheme scheme.Deferred = true
+is_plain_scheme scheme.Punctual = true
+is_plain_scheme _ = false
 
-abbrev pub is_view : Level → Bool
-is_view level.View = true
-is_view _ = false
-
--- the transaction is deferred, under view consistency
+-- the transaction's scheme is one of these
 abbrev pub is_plain_txn : Transaction → Bool
-is_plain_txn txn = is_deferred txn.scheme && is_view txn.level
+is_plain_txn txn = is_plain_scheme txn.scheme
 
 -- each transaction is plain
 abbrev pub are_plain_txns : List Transaction → Bool

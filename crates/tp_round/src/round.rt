@@ -147,7 +147,7 @@ fn with_met(alloc: Global, mets: &List<Met>, met: Option<Met>) -> Result<List<Me
 
 impl Round {
     /// The first round over these servers, with room for their replies. Each administrator has this level; under global
-    /// consistency each round reads the master, and at most `limit` rounds, from 1 to 16, may meet a newer version there.
+    /// consistency each round reads the master, and at most `limit` rounds may meet a newer version there.
     /// Of a server that stands twice two replies are awaited; a coordinator's servers differ, as they stand in order of
     /// number.
     pub fn start(
@@ -156,8 +156,6 @@ impl Round {
         limit: u32,
         level: Level,
     ) -> Result<Round, NoMemory>
-        requires some { 1 ≤ limit }
-        requires few { limit ≤ 16 }
         ensures { IfOk result (λ made. made ≡ rule.first_round targets.now limit
             (replicate admins_limit level) (is_global level)) }
     {
@@ -198,6 +196,13 @@ impl Round {
         self.targets
             .iter()
             .any(|target| target.server == server && target.reply.is_none())
+    }
+
+    /// Whether a reply is awaited.
+    pub fn awaits_any(&self) -> bool
+        ensures { result ≡ list_any rule.is_missing self.now.targets }
+    {
+        is_missing(self.targets.as_slice())
     }
 
     fn is_waiting(&self, reading: Option<&Reading>) -> bool

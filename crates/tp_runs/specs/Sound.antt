@@ -1,6 +1,6 @@
 -- What is asked of each actor, mail, record and fact of a world: that all they name exists, that a deed does to an item what its query
 -- says, and that a write is asked with a value. What bounds the values stands in Bounded.
-use Rattle.std.specs.Prelude.{IfSome, List, Option, Some, [], is_some, length, option_and_then, option_map, slice_get, true, ℕ, ◌∷◌, ◌≡◌, ◌≤◌, is_none, ◌&&◌, false}
+use Rattle.std.specs.Prelude.{IfSome, List, Option, Some, [], is_some, length, option_and_then, option_map, slice_get, true, ℕ, ◌∷◌, ◌≡◌, ◌≤◌}
 use Rattle.std.specs.List.{IsDistinct}
 use Rattle.tp_model.specs.Authorisation.{action_of}
 use Rattle.tp_model.specs.Ids.{same_cred}
@@ -190,9 +190,9 @@ abbrev pub HasVerdict : Answer → Type 0
 HasVerdict (answer.Ran value verdict) = is_some verdict ≡ true
 HasVerdict _ = Unit {0}
 
--- the answer's verdict, versions and transaction exist
+-- what the answer names exists: its verdict, which is true where the query ran, its versions, or its transaction
 abbrev pub IsSoundAnswer : Scenario → TxnId → Answer → Type 0
-IsSoundAnswer sc txn (answer.Ran value verdict) = IfSome verdict (IsSoundVerdict sc txn)
+IsSoundAnswer sc txn (answer.Ran value verdict) = IfSome verdict (IsSoundProof sc txn)
 IsSoundAnswer sc txn (answer.Denied verdict) = IsSoundVerdict sc txn verdict
 IsSoundAnswer sc txn (answer.Newer newer) = IsSoundNewer sc newer
 IsSoundAnswer sc txn (answer.Died other) = IsTxn sc other
@@ -407,10 +407,9 @@ IsSoundFact sc fact = IsSoundWhat sc fact.what
 
 -- ---- actors
 
--- a query that waits is of the transaction, and asked without a staple
+-- a query that waits is of the transaction
 pub record IsSoundWait (sc : Scenario) (at : ServerId) (txn : TxnId) (q : QueryRequest) : Type 0 where
   pub own : q.txn ≡ txn
-  pub plain : (is_none q.staple && is_none q.pin) ≡ true
   pub sound : IsSoundQuery sc (actor.Server at) q
 
 -- what an entry keeps of a transaction is sound
@@ -469,9 +468,10 @@ pub record IsSoundWanted (sc : Scenario) (named : Wanted) : Type 0 where
   pub server : IsServer sc named.server
   pub want : AreWanted sc named.want
 
--- a round under view consistency: what it aims at, names and met is sound, and so is each of its servers
+-- a round reads the master where an administrator's level is global; what it aims at, names and met is sound, and so is
+-- each of its servers
 pub record IsSoundRound (sc : Scenario) (txn : TxnId) (round : Round) : Type 0 where
-  pub view : (admin : AdminId) → is_global_at round.levels admin ≡ false
+  pub levels : (admin : AdminId) → is_global_at round.levels admin ≡ true → round.reads ≡ true
   pub targets : Each (IsSoundTarget sc txn) round.targets
   pub aim : AreWanted sc round.aim
   pub named : Each (IsSoundWanted sc) round.named
@@ -482,11 +482,12 @@ abbrev pub IsSoundSpan : Scenario → TxnId → Span → Type 0
 IsSoundSpan sc txn (span.Validate number) = IsQuery sc txn number
 IsSoundSpan sc txn span.Commit = Unit {0}
 
--- what a coordinator awaits is sound
+-- what a coordinator awaits is sound; where each query is proved, one was asked with a staple
 abbrev pub IsSoundPhase : Scenario → TxnId → Phase → Type 0
 IsSoundPhase sc txn (phase.Stapling number) = IsQuery sc txn number
 IsSoundPhase sc txn (phase.Querying number staple) =
     IsQuery sc txn number × IfSome staple (IsSoundStaple sc)
+    × (ProvesEach sc txn → is_some staple ≡ true)
 IsSoundPhase sc txn (phase.Probing number) = IsQuery sc txn number
 IsSoundPhase sc txn (phase.Asking over round) = IsSoundSpan sc txn over × IsSoundRound sc txn round
 IsSoundPhase sc txn (phase.Checking over round staple) =

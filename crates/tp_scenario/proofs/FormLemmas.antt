@@ -1,10 +1,10 @@
 -- A scenario without a form that is not built is of the present stage.
-use Rattle.std.proofs.Common.{◌≡◌, ℕ, ◌+◌, ◌&&◌, List, [], ◌∷◌, Bool, true, false, if◌then◌else◌, Option, Some, None, refl}
+use Rattle.std.proofs.Common.{◌≡◌, ℕ, ◌+◌, List, [], ◌∷◌, Bool, true, false, if◌then◌else◌, Option, Some, None, refl}
 use Rattle.std.proofs.lemmas.Bool.{and_from}
 use Rattle.std.specs.List.{list_all}
 use Rattle.tp_model.specs.Words.{Scenario, Transaction}
-use Rattle.tp_model.specs.Stage.{are_plain_txns, is_deferred, is_plain_txn, is_stage, is_view}
-use Rattle.tp_scenario.specs.declared.path.Key.TheVariants.{Transactions, Scheme, Level}
+use Rattle.tp_model.specs.Stage.{are_plain_txns, is_plain_txn, is_stage}
+use Rattle.tp_scenario.specs.declared.path.Key.TheVariants.{Transactions, Scheme}
 use Rattle.tp_scenario.specs.declared.path.Path.TheVariants.{Field}
 use Rattle.tp_scenario.specs.declared.path.Site.{Site}
 use Rattle.tp_scenario.specs.declared.path.Site.TheVariants.{At}
@@ -20,12 +20,11 @@ second_none None other e = e
 second_none (Some site) other e = cc
 
 txn_none : (at : ℕ) (txn : Transaction) → txn_form at txn ≡ None → is_plain_txn txn ≡ true
-txn_none at txn e = by_tests (is_deferred txn.scheme) (is_view txn.level) e
+txn_none at txn e = by_test (is_plain_txn txn) e
   where
-    by_tests : (deferred view : Bool) → (if deferred then (if view then None else Some (At (Field Transactions at Level))) else Some (At (Field Transactions at Scheme))) ≡ None → (deferred && view) ≡ true
-    by_tests true true f = refl
-    by_tests true false f = absurd (cc)
-    by_tests false view f = absurd (cc)
+    by_test : (plain : Bool) → (if plain then None else Some (At (Field Transactions at Scheme))) ≡ None → plain ≡ true
+    by_test true f = refl
+    by_test false f = absurd (cc)
 
 txns_none : (at : ℕ) (txns : List Transaction) → txns_form at txns ≡ None → are_plain_txns txns ≡ true
 txns_none at [] e = refl

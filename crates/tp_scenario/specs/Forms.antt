@@ -3,18 +3,16 @@
 use Rattle.std.specs.Prelude.{ℕ, ◌+◌, List, [], ◌∷◌, if◌then◌else◌, Option, Some, None}
 use Rattle.std.specs.Option.{option_or}
 use Rattle.tp_model.specs.Words.{Scenario, Transaction}
-use Rattle.tp_model.specs.Stage.{is_deferred, is_view}
-use Rattle.tp_scenario.specs.declared.path.Key.TheVariants.{Transactions, Scheme, Level}
+use Rattle.tp_model.specs.Stage.{is_plain_txn}
+use Rattle.tp_scenario.specs.declared.path.Key.TheVariants.{Transactions, Scheme}
 use Rattle.tp_scenario.specs.declared.path.Path.TheVariants.{Field}
 use Rattle.tp_scenario.specs.declared.path.Site.{Site}
 use Rattle.tp_scenario.specs.declared.path.Site.TheVariants.{At}
 
--- in the transaction with this number: another scheme than deferred; another level than view
+-- in the transaction with this number: another scheme than deferred or punctual
 abbrev pub txn_form : ℕ → Transaction → Option Site
 txn_form at txn =
-    if is_deferred txn.scheme
-    then (if is_view txn.level then None else Some (At (Field Transactions at Level)))
-    else Some (At (Field Transactions at Scheme))
+    if is_plain_txn txn then None else Some (At (Field Transactions at Scheme))
 
 -- in the first transaction that has one, where the first of all has this number
 abbrev pub txns_form : ℕ → List Transaction → Option Site

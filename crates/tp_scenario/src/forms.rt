@@ -4,34 +4,22 @@ ghost use Rattle.tp_model.specs.Stage as stage;
 ghost use Rattle.tp_scenario.specs.Forms as forms;
 
 use crate::path::{Key, Path, Site};
-use tp_types::{Level, Scenario, Scheme, Transaction};
+use tp_types::{Scenario, Scheme, Transaction};
 
-fn is_deferred(scheme: Scheme) -> bool
-    ensures { result ≡ stage.is_deferred scheme }
+fn is_plain_scheme(scheme: Scheme) -> bool
+    ensures { result ≡ stage.is_plain_scheme scheme }
 {
     match scheme {
-        Scheme::Deferred => true,
+        Scheme::Deferred | Scheme::Punctual => true,
         _ => false,
-    }
-}
-
-fn is_view(level: Level) -> bool
-    ensures { result ≡ stage.is_view level }
-{
-    match level {
-        Level::View => true,
-        Level::Global => false,
     }
 }
 
 fn txn_form(at: usize, txn: &Transaction) -> Option<Site>
     ensures { result ≡ forms.txn_form at txn.now }
 {
-    if !is_deferred(txn.scheme) {
+    if !is_plain_scheme(txn.scheme) {
         return Some(Site::At(Path::Field(Key::Transactions, at, Key::Scheme)));
-    }
-    if !is_view(txn.level) {
-        return Some(Site::At(Path::Field(Key::Transactions, at, Key::Level)));
     }
     None
 }

@@ -1,6 +1,6 @@
 -- A server's row is walked once: what is shown of each of its outcomes holds of the row. A new outcome is a field here, and of each theorem's cases.
 use Rattle.std.specs.Option.{option_flatten, option_map_or}
-use Rattle.std.proofs.Common.{IfSome, List, None, Option, Some, [], ap, append-nil, drop, false, inl, inr, is_none, is_some, arith, length, nat_lt, not, option_and_then, option_map, refl, slice_get, slice_set, subst, sym, true, ℕ, ℤ, ◌&&◌, ◌++◌, ◌<◌, ◌==◌, ◌∙◌, ◌∷◌, ◌≡◌, ◌≤◌, ◌⊎◌}
+use Rattle.std.proofs.Common.{IfSome, List, None, Option, Some, [], ap, append-nil, drop, false, inl, inr, is_none, is_some, arith, length, nat_lt, not, option_and_then, option_map, refl, slice_get, slice_set, subst, sym, true, ℕ, ℤ, ◌++◌, ◌<◌, ◌==◌, ◌∙◌, ◌∷◌, ◌≡◌, ◌≤◌, ◌⊎◌}
 use Rattle.std.proofs.lemmas.Bool.{eqb-false, not-false, not-true}
 use Rattle.std.proofs.lemmas.Bool.Decides.{nat_tests}
 use Rattle.std.proofs.lemmas.Option.{same_Some}
@@ -11,10 +11,11 @@ use Rattle.tp_lock.specs.declared.entry.Asked.TheVariants as asked
 use Rattle.tp_lock.specs.declared.entry.Asked.{Asked}
 use Rattle.tp_lock.specs.declared.entry.Grant.{Grant}
 use Rattle.tp_model.specs.Queries.{item_of}
+use Rattle.tp_model.specs.Words.answer
 use Rattle.tp_model.specs.Words.body
 use Rattle.tp_model.specs.Words.no
 use Rattle.tp_model.specs.Words.query
-use Rattle.tp_model.specs.Words.{Body, DecideRequest, Deed, DoneReply, Letter, Mail, No, PrepareRequest, PushNotice, Query, QueryRequest, Scenario, ServerId, Settled, Staple, Transaction, TxnId}
+use Rattle.tp_model.specs.Words.{Body, DecideRequest, Deed, DoneReply, Item, Letter, Mail, No, PrepareRequest, PushNotice, Query, QueryRequest, Scenario, ServerId, Settled, Staple, Transaction, TxnId, Verdict}
 use Rattle.tp_types.proofs.EachLemmas.{by_cond, placed_emptied, placed_set, some_value}
 use Rattle.tp_server.proofs.Tables.{placed_same, set_twice, written_over}
 use Rattle.tp_model.specs.Deeds.{deed_of}
@@ -22,9 +23,10 @@ use Rattle.tp_types.specs.Each.{Each, EachPlaced}
 use Rattle.tp_server.specs.Values.{HasValue}
 use Rattle.tp_server.specs.declared.server.Ballot.{Ballot}
 use Rattle.tp_server.specs.declared.server.Entry.{Entry}
-use Rattle.tp_server.specs.Row.{ack_letter, after_asking, age_of, after_grants, answer_to, answers, asked_query, asked_to_vote, asks, asks_query, asks_with, by_lock, closes, completes, dies, done_letter, ends, entry_after, entry_at, evaluates, followed_by, is_open, kept_by, learns, lock_answer, names_another_epoch, new_entry, no_letter, on_body, on_open_query, on_refused, on_settled_decide, on_settled_prepare, on_unlost_query, refused_as, refuses, restarts, after_grant, resumes_at, resumes_query, resumes_waiting, resumes_with, server_row, settled_as, taken_from, value_of_run, votes_at, votes_in_range, votes_on, votes_with, waiting_at, waits, with_entry, yes_letter}
+use Rattle.tp_server.specs.Row.{ack_letter, after_asking, age_of, after_grants, answer_to, answers, answers_with, asked_query, asked_to_vote, asks, asks_query, asks_with, by_lock, closes, completes, ends, entry_after, entry_at, evaluates, followed_by, is_open, kept_by, learns, lock_answer, names_another_epoch, new_entry, no_letter, on_body, on_open_query, on_refused, on_settled_decide, on_settled_prepare, on_unlost_query, refused_as, refuses, restarts, after_grant, resumes_at, resumes_query, resumes_waiting, resumes_with, reply_letter, ran_as, runs, runs_by, server_row, settled_as, taken_from, value_of_run, verdict_at, votes_at, votes_in_range, votes_on, votes_with, waiting_at, waits, with_answer, with_entry, yes_letter}
 use Rattle.tp_server.specs.State.{Server}
 use Rattle.tp_server.specs.Verdicts.{with_wants, version_known}
+use Rattle.tp_store.specs.Contents.{Contents}
 use Rattle.tp_store.specs.Rule.{first_outside_in, read_in}
 
 -- ---- outcomes
@@ -48,9 +50,19 @@ pub record IsAsking (sc : Scenario) (s : Server) (mail : Mail) (q : QueryRequest
   pub said_is : mail.letter.body ≡ body.Query q
   pub unsettled : is_open s q.txn ≡ true
   pub place : IsFirstHere s mail.sent q entry ⊎ IsFurther s q entry
-  pub plain : (is_none q.staple && is_none q.pin) ≡ true
+  pub unpinned : is_none q.pin ≡ true
   pub asked_is : asked_query sc q ≡ Some query
   pub value_is : value_of_run s q query ≡ Some value
+
+-- a query has its lock, and is to run: it was asked without a staple, or its proof is this and true
+pub record IsRunning (sc : Scenario) (s : Server) (q : QueryRequest) (deed : Deed) (proof : Option Verdict) : Type 0 where
+  pub proof_is : verdict_at sc s q deed ≡ proof
+  pub holds : IfSome proof (λ (verdict : Verdict). is_none verdict.rule ≡ false)
+
+-- its proof is this and false
+pub record IsDenied (sc : Scenario) (s : Server) (q : QueryRequest) (deed : Deed) (verdict : Verdict) : Type 0 where
+  pub proof_is : verdict_at sc s q deed ≡ Some verdict
+  pub fails : is_none verdict.rule ≡ true
 
 -- the first vote on an entry, which wrote no value outside its item's range
 pub record IsFirstVote (s : Server) (p : PrepareRequest) (entry : Entry) : Type 0 where
@@ -131,25 +143,27 @@ pub record IsNews (s : Server) (mail : Mail) (push : PushNotice) : Type 0 where
   pub said_is : mail.letter.body ≡ body.Push push
   pub newer : nat_lt (version_known s push.admin).0 push.version.0 ≡ true
 
--- a query that waits at an entry, on which nothing was voted: it is of the entry's transaction, asked without a staple, and comes after the
--- queries that have run; there is such a query, on an item of the scenario, and a write has its value
-pub record IsRightWait (sc : Scenario) (n : ℕ) (entry : Entry) (q : QueryRequest) : Type 0 where
+-- a query that waits at an entry, on which nothing was voted: it is of the entry's transaction, and comes after the queries that have run;
+-- there is such a query, on an item of the server, and a write has its value
+pub record IsRightWait (sc : Scenario) (at : ServerId) (n : ℕ) (entry : Entry) (q : QueryRequest) : Type 0 where
   pub own : q.txn.0 ≡ n
   pub exists : q.txn.0 < length sc.txns
   pub unvoted : entry.ballot ≡ None
   pub upto : Each (λ (deed : Deed). deed.query ≤ q.query) entry.deeds
-  pub plain : (is_none q.staple && is_none q.pin) ≡ true
   pub query : Query
   pub asked_is : asked_query sc q ≡ Some query
   pub on_item : (item_of query).0 < length sc.items
+  pub item : Item
+  pub item_is : slice_get sc.items (item_of query).0 ≡ Some item
+  pub here : item.server ≡ at
   pub has_value : HasValue query q.value
 
-abbrev pub WaitsRightly : Scenario → ℕ → Entry → Type 0
-WaitsRightly sc n entry = IfSome entry.waiting (IsRightWait sc n entry)
+abbrev pub WaitsRightly : Scenario → ServerId → ℕ → Entry → Type 0
+WaitsRightly sc at n entry = IfSome entry.waiting (IsRightWait sc at n entry)
 
 -- so does each query that waits at the server
 abbrev pub AreRightWaits : Scenario → Server → Type 0
-AreRightWaits sc s = EachPlaced (WaitsRightly sc) s.entries
+AreRightWaits sc s = EachPlaced (WaitsRightly sc s.server) s.entries
 
 -- the entry without what waits at it
 abbrev pub unwaiting : Entry → Entry
@@ -165,14 +179,20 @@ pub record IsResumed (sc : Scenario) (at : ServerId) (s : Server) (grant : Grant
   pub exists : q.txn.0 < length sc.txns
   pub unvoted : entry.ballot ≡ None
   pub upto : Each (λ (deed : Deed). deed.query ≤ q.query) entry.deeds
-  pub plain : (is_none q.staple && is_none q.pin) ≡ true
   pub on_item : (item_of query).0 < length sc.items
+  pub item : Item
+  pub item_is : slice_get sc.items (item_of query).0 ≡ Some item
+  pub here : item.server ≡ at
   pub asked_is : asked_query sc q ≡ Some query
   pub value_is : value_of_run s q query ≡ Some value
 
 -- what the query that waited does
-abbrev pub resuming : Server → QueryRequest → Query → Entry → ℤ → Effect Server
-resuming s q query entry value = completes s q query (unwaiting entry) (deed_of q.query query value)
+abbrev pub resuming : Server → QueryRequest → Query → Entry → ℤ → Option Verdict → Effect Server
+resuming s q query entry value proof = completes s q query (unwaiting entry) (deed_of q.query query value) proof
+
+-- where its proof is false
+abbrev pub denying : Server → QueryRequest → Entry → Verdict → Effect Server
+denying s q entry verdict = answers_with s q (unwaiting entry) (answer.Denied verdict)
 
 -- an effect with other locks
 abbrev pub with_locks : Effect Server → Table → Effect Server
@@ -181,11 +201,13 @@ with_locks effect locks = record effect { state = record effect.state { locks = 
 -- what is to be shown of the outcomes of a receipt: P of the effect, with the locks as they are
 pub record LockCases (sc : Scenario) (s : Server) (mail : Mail) (P : Effect Server → Type 0) : Type 0 where
   pub ignored : P (ignores s)
-  pub ran : (q : QueryRequest) (query : Query) (entry : Entry) (value : ℤ) → IsAsking sc s mail q query entry value → lock_answer s q query entry ≡ asked.Granted
-      → P (completes (after_asking s q query entry) q query entry (deed_of q.query query value))
+  pub ran : (q : QueryRequest) (query : Query) (entry : Entry) (value : ℤ) (proof : Option Verdict) → IsAsking sc s mail q query entry value → lock_answer s q query entry ≡ asked.Granted
+      → IsRunning sc s q (deed_of q.query query value) proof → P (completes (after_asking s q query entry) q query entry (deed_of q.query query value) proof)
+  pub denied : (q : QueryRequest) (query : Query) (entry : Entry) (value : ℤ) (verdict : Verdict) → IsAsking sc s mail q query entry value → lock_answer s q query entry ≡ asked.Granted
+      → IsDenied sc s q (deed_of q.query query value) verdict → P (answers_with (after_asking s q query entry) q entry (answer.Denied verdict))
   pub waited : (q : QueryRequest) (query : Query) (entry : Entry) (value : ℤ) → IsAsking sc s mail q query entry value → lock_answer s q query entry ≡ asked.Waits → P (waits (after_asking s q query entry) q entry)
   pub died : (q : QueryRequest) (query : Query) (entry : Entry) (value : ℤ) (other : TxnId) → IsAsking sc s mail q query entry value → lock_answer s q query entry ≡ asked.Dies other
-      → P (dies (after_asking s q query entry) q entry other)
+      → P (answers_with (after_asking s q query entry) q entry (answer.Died other))
   pub restarted : (q : QueryRequest) → IsLost s mail q → P (restarts s q)
   pub answered : (q : QueryRequest) (entry : Entry) (given : DoneReply) → IsAnswered s mail q entry given → P (answers s q.txn given)
   pub voted : (p : PrepareRequest) (entry : Entry) (staple : Staple) (txn : Transaction) → IsVote sc s mail p entry staple txn → P (votes_on sc (with_wants s p.want) p entry staple txn)
@@ -199,16 +221,22 @@ pub record LockCases (sc : Scenario) (s : Server) (mail : Mail) (P : Effect Serv
   -- a grant is taken, and nothing waited for it
   pub passed : (effect : Effect Server) (grant : Grant) → first_grant effect.state.locks ≡ Some grant → waiting_at effect.state grant.owner ≡ None → P effect → P (with_locks effect (without_grant effect.state.locks))
   -- a grant is taken, and what waited for it runs
-  pub resumed : (effect : Effect Server) (grant : Grant) (q : QueryRequest) (query : Query) (entry : Entry) (value : ℤ) → IsResumed sc s.server effect.state grant q query entry value → P effect
-      → P (with_locks (followed_by effect (resuming effect.state q query entry value)) (without_grant effect.state.locks))
+  pub resumed : (effect : Effect Server) (grant : Grant) (q : QueryRequest) (query : Query) (entry : Entry) (value : ℤ) (proof : Option Verdict) → IsResumed sc s.server effect.state grant q query entry value
+      → IsRunning sc effect.state q (deed_of q.query query value) proof → P effect → P (with_locks (followed_by effect (resuming effect.state q query entry value proof)) (without_grant effect.state.locks))
+  -- a grant is taken, and the proof of what waited for it is false
+  pub resumed_denied : (effect : Effect Server) (grant : Grant) (q : QueryRequest) (query : Query) (entry : Entry) (value : ℤ) (verdict : Verdict) → IsResumed sc s.server effect.state grant q query entry value
+      → IsDenied sc effect.state q (deed_of q.query query value) verdict → P effect → P (with_locks (followed_by effect (denying effect.state q entry verdict)) (without_grant effect.state.locks))
 
 -- what is to be shown of the outcomes of a receipt where P says nothing of locks
 pub record ServerCases (sc : Scenario) (s : Server) (mail : Mail) (P : Effect Server → Type 0) : Type 0 where
   pub relocked : (effect : Effect Server) (locks : Table) → P effect → P (with_locks effect locks)
   pub ignored : P (ignores s)
-  pub ran : (q : QueryRequest) (query : Query) (entry : Entry) (value : ℤ) → IsAsking sc s mail q query entry value → P (completes s q query entry (deed_of q.query query value))
+  pub ran : (q : QueryRequest) (query : Query) (entry : Entry) (value : ℤ) (proof : Option Verdict) → IsAsking sc s mail q query entry value → IsRunning sc s q (deed_of q.query query value) proof
+      → P (completes s q query entry (deed_of q.query query value) proof)
+  pub denied : (q : QueryRequest) (query : Query) (entry : Entry) (value : ℤ) (verdict : Verdict) → IsAsking sc s mail q query entry value → IsDenied sc s q (deed_of q.query query value) verdict
+      → P (answers_with s q entry (answer.Denied verdict))
   pub waited : (q : QueryRequest) (query : Query) (entry : Entry) (value : ℤ) → IsAsking sc s mail q query entry value → P (waits s q entry)
-  pub died : (q : QueryRequest) (query : Query) (entry : Entry) (value : ℤ) (other : TxnId) → IsAsking sc s mail q query entry value → lock_answer s q query entry ≡ asked.Dies other → P (dies s q entry other)
+  pub died : (q : QueryRequest) (query : Query) (entry : Entry) (value : ℤ) (other : TxnId) → IsAsking sc s mail q query entry value → lock_answer s q query entry ≡ asked.Dies other → P (answers_with s q entry (answer.Died other))
   pub restarted : (q : QueryRequest) → IsLost s mail q → P (restarts s q)
   pub answered : (q : QueryRequest) (entry : Entry) (given : DoneReply) → IsAnswered s mail q entry given → P (answers s q.txn given)
   pub voted : (p : PrepareRequest) (entry : Entry) (staple : Staple) (txn : Transaction) → IsVote sc s mail p entry staple txn → P (votes_on sc (with_wants s p.want) p entry staple txn)
@@ -220,17 +248,21 @@ pub record ServerCases (sc : Scenario) (s : Server) (mail : Mail) (P : Effect Se
   pub acknowledged : (d : DecideRequest) (settled : Settled) → IsLateOrder s mail d settled → P (sends s (ack_letter s d.txn ∷ []))
   pub pushed : (push : PushNotice) → IsNews s mail push → P (learns s push)
   -- what waited runs, after what was done before
-  pub resumed : (effect : Effect Server) (grant : Grant) (q : QueryRequest) (query : Query) (entry : Entry) (value : ℤ) → IsResumed sc s.server effect.state grant q query entry value → P effect
-      → P (followed_by effect (resuming effect.state q query entry value))
+  pub resumed : (effect : Effect Server) (grant : Grant) (q : QueryRequest) (query : Query) (entry : Entry) (value : ℤ) (proof : Option Verdict) → IsResumed sc s.server effect.state grant q query entry value
+      → IsRunning sc effect.state q (deed_of q.query query value) proof → P effect → P (followed_by effect (resuming effect.state q query entry value proof))
+  -- the proof of what waited is false
+  pub resumed_denied : (effect : Effect Server) (grant : Grant) (q : QueryRequest) (query : Query) (entry : Entry) (value : ℤ) (verdict : Verdict) → IsResumed sc s.server effect.state grant q query entry value
+      → IsDenied sc effect.state q (deed_of q.query query value) verdict → P effect → P (followed_by effect (denying effect.state q entry verdict))
 
 -- where P says nothing of locks
 lock_cases : (sc : Scenario) (s : Server) (mail : Mail) (P : Effect Server → Type 0) → ServerCases sc s mail P → LockCases sc s mail P
 lock_cases sc s mail P cases =
     record {
       ignored = cases.ignored;
-      ran = λ q query entry value k granted. cases.relocked (completes s q query entry (deed_of q.query query value)) (after_asking s q query entry).locks (cases.ran q query entry value k);
+      ran = λ q query entry value proof k granted r. cases.relocked (completes s q query entry (deed_of q.query query value) proof) (after_asking s q query entry).locks (cases.ran q query entry value proof k r);
+      denied = λ q query entry value verdict k granted d. cases.relocked (answers_with s q entry (answer.Denied verdict)) (after_asking s q query entry).locks (cases.denied q query entry value verdict k d);
       waited = λ q query entry value k waiting. cases.relocked (waits s q entry) (after_asking s q query entry).locks (cases.waited q query entry value k);
-      died = λ q query entry value other k dying. cases.relocked (dies s q entry other) (after_asking s q query entry).locks (cases.died q query entry value other k dying);
+      died = λ q query entry value other k dying. cases.relocked (answers_with s q entry (answer.Died other)) (after_asking s q query entry).locks (cases.died q query entry value other k dying);
       restarted = cases.restarted;
       answered = cases.answered;
       voted = cases.voted;
@@ -242,8 +274,10 @@ lock_cases sc s mail P cases =
       acknowledged = cases.acknowledged;
       pushed = cases.pushed;
       passed = λ effect grant first nobody h. cases.relocked effect (without_grant effect.state.locks) h;
-      resumed = λ effect grant q query entry value k h.
-          cases.relocked (followed_by effect (resuming effect.state q query entry value)) (without_grant effect.state.locks) (cases.resumed effect grant q query entry value k h);
+      resumed = λ effect grant q query entry value proof k r h.
+          cases.relocked (followed_by effect (resuming effect.state q query entry value proof)) (without_grant effect.state.locks) (cases.resumed effect grant q query entry value proof k r h);
+      resumed_denied = λ effect grant q query entry value verdict k d h.
+          cases.relocked (followed_by effect (denying effect.state q entry verdict)) (without_grant effect.state.locks) (cases.resumed_denied effect grant q query entry value verdict k d h);
     }
 
 -- ---- grants
@@ -281,31 +315,67 @@ value_there s q (query.Write item expr) h = some_value q.value h
 abbrev resumable : Server → QueryRequest → Entry → Server
 resumable s q entry = with_entry (taken_from s) q.txn (Some (unwaiting entry))
 
+-- the effect after a query that waited: its entry becomes this, first and at once
+noted_twice : (sc : Scenario) (at : ServerId) (P : Effect Server → Type 0) (grants : List Grant) (effect : Effect Server) (q : QueryRequest) (entry new : Entry) (store : Contents) (letter : Letter)
+    → Taking sc at P grants (record {
+      state = record effect.state { store = store; entries = slice_set effect.state.entries q.txn.0 (Some new); locks = without_grant effect.state.locks };
+      reaction = record effect.reaction { letters = effect.reaction.letters ++ letter ∷ [] };
+    })
+    → Taking sc at P grants (record {
+      state = record (resumable effect.state q entry) { store = store; entries = slice_set (resumable effect.state q entry).entries q.txn.0 (Some new) };
+      reaction = record effect.reaction { letters = effect.reaction.letters ++ letter ∷ [] };
+    })
+noted_twice sc at P grants effect q entry new store letter h =
+    subst (λ (entries : List (Option Entry)). Taking sc at P grants (record {
+      state = record effect.state { store = store; entries = entries; locks = without_grant effect.state.locks };
+      reaction = record effect.reaction { letters = effect.reaction.letters ++ letter ∷ [] };
+    })) (sym (set_twice effect.state.entries q.txn.0 (Some (unwaiting entry)) (Some new))) h
+
+-- what waited runs
+resumed_by : (sc : Scenario) (s : Server) (mail : Mail) (P : Effect Server → Type 0) → LockCases sc s mail P → (effect : Effect Server) (grant : Grant) (grants : List Grant) (q : QueryRequest) (query : Query) (entry : Entry) (value : ℤ)
+    (proof : Option Verdict) → Taking sc s.server P (grant ∷ grants) effect → IsResumed sc s.server effect.state grant q query entry value → IsRunning sc effect.state q (deed_of q.query query value) proof
+    → Taking sc s.server P grants (followed_by effect (completes (resumable effect.state q entry) q query (unwaiting entry) (deed_of q.query query value) proof))
+resumed_by sc s mail P cases effect grant grants q query entry value proof h k r =
+    let deed = deed_of q.query query value in
+    let new = entry_after q (unwaiting entry) deed proof in
+    noted_twice sc s.server P grants effect q entry new (kept_by effect.state.store q query deed.value) (reply_letter effect.state q (unwaiting entry) (ran_as deed proof))
+    (record { holds = cases.resumed effect grant q query entry value proof k r h.holds; server_is = h.server_is; waits = placed_set (WaitsRightly sc effect.state.server) effect.state.entries q.txn.0 new h.waits tt; left = ap (drop 1) h.left })
+
+-- the proof of what waited is false
+denied_by : (sc : Scenario) (s : Server) (mail : Mail) (P : Effect Server → Type 0) → LockCases sc s mail P → (effect : Effect Server) (grant : Grant) (grants : List Grant) (q : QueryRequest) (query : Query) (entry : Entry) (value : ℤ)
+    (verdict : Verdict) → Taking sc s.server P (grant ∷ grants) effect → IsResumed sc s.server effect.state grant q query entry value → IsDenied sc effect.state q (deed_of q.query query value) verdict
+    → Taking sc s.server P grants (followed_by effect (answers_with (resumable effect.state q entry) q (unwaiting entry) (answer.Denied verdict)))
+denied_by sc s mail P cases effect grant grants q query entry value verdict h k d =
+    let new = with_answer q (unwaiting entry) (answer.Denied verdict) in
+    noted_twice sc s.server P grants effect q entry new effect.state.store (reply_letter effect.state q (unwaiting entry) (answer.Denied verdict))
+    (record { holds = cases.resumed_denied effect grant q query entry value verdict k d h.holds; server_is = h.server_is; waits = placed_set (WaitsRightly sc effect.state.server) effect.state.entries q.txn.0 new h.waits tt; left = ap (drop 1) h.left })
+
+-- by the proof of what waited, if it has one
+proved_by : (sc : Scenario) (s : Server) (mail : Mail) (P : Effect Server → Type 0) → LockCases sc s mail P → (effect : Effect Server) (grant : Grant) (grants : List Grant) (q : QueryRequest) (query : Query) (entry : Entry) (value : ℤ)
+    (proof : Option Verdict) → Taking sc s.server P (grant ∷ grants) effect → IsResumed sc s.server effect.state grant q query entry value → verdict_at sc effect.state q (deed_of q.query query value) ≡ proof
+    → Taking sc s.server P grants (followed_by effect (runs_by (resumable effect.state q entry) q query (unwaiting entry) (deed_of q.query query value) proof))
+proved_by sc s mail P cases effect grant grants q query entry value None h k v = resumed_by sc s mail P cases effect grant grants q query entry value None h k (record { proof_is = v; holds = tt })
+proved_by sc s mail P cases effect grant grants q query entry value (Some verdict) h k v =
+    by_cond (λ (further : Effect Server). Taking sc s.server P grants (followed_by effect further)) (is_none verdict.rule)
+    (λ fails. denied_by sc s mail P cases effect grant grants q query entry value verdict h k (record { proof_is = v; fails = fails }))
+    (λ holds. resumed_by sc s mail P cases effect grant grants q query entry value (Some verdict) h k (record { proof_is = v; holds = holds }))
+
 -- a grant for which a query waits
-runs_by : (sc : Scenario) (s : Server) (mail : Mail) (P : Effect Server → Type 0) → LockCases sc s mail P → (effect : Effect Server) (grant : Grant) (grants : List Grant) (q : QueryRequest) (entry : Entry)
+granted_by : (sc : Scenario) (s : Server) (mail : Mail) (P : Effect Server → Type 0) → LockCases sc s mail P → (effect : Effect Server) (grant : Grant) (grants : List Grant) (q : QueryRequest) (entry : Entry)
     → Taking sc s.server P (grant ∷ grants) effect → grant.owner ≡ q.txn → entry_at effect.state q.txn ≡ Some entry → entry.waiting ≡ Some q
     → Taking sc s.server P grants (followed_by effect (resumes_waiting sc (resumable effect.state q entry) (Some q)))
-runs_by sc s mail P cases effect grant grants q entry h owner found waiting =
-    let right : IsRightWait sc q.txn.0 entry q = subst (λ (w : Option QueryRequest). IfSome w (IsRightWait sc q.txn.0 entry)) waiting (h.waits q.txn.0 entry found) in
+granted_by sc s mail P cases effect grant grants q entry h owner found waiting =
+    let right : IsRightWait sc effect.state.server q.txn.0 entry q = subst (λ (w : Option QueryRequest). IfSome w (IsRightWait sc effect.state.server q.txn.0 entry)) waiting (h.waits q.txn.0 entry found) in
     let now = resumable effect.state q entry in
     let valued = value_there effect.state q right.query right.has_value in
-    let deed = deed_of q.query right.query valued.0 in
     let first : first_grant effect.state.locks ≡ Some grant = ap (λ (gs : List Grant). slice_get gs 0) h.left in
-    let ran = cases.resumed effect grant q right.query entry valued.0 (record { server_is = h.server_is; granted = first; owner_is = owner; found = found; waiting_is = waiting; exists = right.exists; unvoted = right.unvoted; upto = right.upto; plain = right.plain; on_item = right.on_item; asked_is = right.asked_is; value_is = valued.1 }) h.holds in
-    let new = entry_after q (unwaiting entry) deed in
-    let letters = effect.reaction.letters ++ done_letter effect.state q (unwaiting entry) deed ∷ [] in
-    let store = kept_by effect.state.store q right.query deed.value in
-    let single : Taking sc s.server P grants (with_locks (followed_by effect (resuming effect.state q right.query entry valued.0)) (without_grant effect.state.locks)) =
-    record { holds = ran; server_is = h.server_is; waits = placed_set (WaitsRightly sc) effect.state.entries q.txn.0 new h.waits tt; left = ap (drop 1) h.left } in
-    let twice : Taking sc s.server P grants (followed_by effect (completes now q right.query (unwaiting entry) deed)) =
-    subst (λ (entries : List (Option Entry)). Taking sc s.server P grants (record {
-      state = record effect.state { store = store; entries = entries; locks = without_grant effect.state.locks };
-      reaction = record effect.reaction { letters = letters };
-    })) (sym (set_twice effect.state.entries q.txn.0 (Some (unwaiting entry)) (Some new))) single in
-    let valued_so : Taking sc s.server P grants (followed_by effect (resumes_with now q right.query (unwaiting entry) (value_of_run now q right.query))) =
-    subst (λ (v : Option ℤ). Taking sc s.server P grants (followed_by effect (resumes_with now q right.query (unwaiting entry) v))) (sym valued.1) twice in
-    let asked_so : Taking sc s.server P grants (followed_by effect (resumes_query now q (unwaiting entry) (asked_query sc q))) =
-    subst (λ (x : Option Query). Taking sc s.server P grants (followed_by effect (resumes_query now q (unwaiting entry) x))) (sym right.asked_is) valued_so in
+    let twice : Taking sc s.server P grants (followed_by effect (runs sc now q right.query (unwaiting entry) (deed_of q.query right.query valued.0))) =
+    proved_by sc s mail P cases effect grant grants q right.query entry valued.0 (verdict_at sc effect.state q (deed_of q.query right.query valued.0)) h
+    (record { server_is = h.server_is; granted = first; owner_is = owner; found = found; waiting_is = waiting; exists = right.exists; unvoted = right.unvoted; upto = right.upto; on_item = right.on_item; item = right.item; item_is = right.item_is; here = right.here ∙ h.server_is; asked_is = right.asked_is; value_is = valued.1 }) refl in
+    let valued_so : Taking sc s.server P grants (followed_by effect (resumes_with sc now q right.query (unwaiting entry) (value_of_run now q right.query))) =
+    subst (λ (v : Option ℤ). Taking sc s.server P grants (followed_by effect (resumes_with sc now q right.query (unwaiting entry) v))) (sym valued.1) twice in
+    let asked_so : Taking sc s.server P grants (followed_by effect (resumes_query sc now q (unwaiting entry) (asked_query sc q))) =
+    subst (λ (x : Option Query). Taking sc s.server P grants (followed_by effect (resumes_query sc now q (unwaiting entry) x))) (sym right.asked_is) valued_so in
     subst (λ (x : Option Entry). Taking sc s.server P grants (followed_by effect (resumes_at sc now q x))) (sym (written_over effect.state.entries q.txn.0 entry (Some (unwaiting entry)) found)) asked_so
 
 -- a grant by what stands at its owner's entry
@@ -318,10 +388,10 @@ grant_by_entry sc s mail P cases effect grant grants (Some entry) None h e w =
     let same : Some (unwaiting entry) ≡ Some entry = ap (λ (x : Option QueryRequest). Some (record entry { waiting = x })) (sym w) in
     passes_by sc s mail P cases effect grant grants (Some (unwaiting entry)) h (ap (option_and_then (λ (found : Entry). found.waiting)) e ∙ w) (e ∙ sym same)
 grant_by_entry sc s mail P cases effect grant grants (Some entry) (Some q) h e w =
-    let right : IsRightWait sc grant.owner.0 entry q = subst (λ (x : Option QueryRequest). IfSome x (IsRightWait sc grant.owner.0 entry)) w (h.waits grant.owner.0 entry e) in
+    let right : IsRightWait sc effect.state.server grant.owner.0 entry q = subst (λ (x : Option QueryRequest). IfSome x (IsRightWait sc effect.state.server grant.owner.0 entry)) w (h.waits grant.owner.0 entry e) in
     let owner : grant.owner ≡ q.txn = ap (λ (n : ℕ). record { 0 = n }) (sym right.own) in
     subst (λ (t : TxnId). Taking sc s.server P grants (followed_by effect (resumes_waiting sc (with_entry (taken_from effect.state) t (Some (unwaiting entry))) (Some q)))) (sym owner)
-    (runs_by sc s mail P cases effect grant grants q entry h owner (subst (λ (t : TxnId). entry_at effect.state t ≡ Some entry) owner e) w)
+    (granted_by sc s mail P cases effect grant grants q entry h owner (subst (λ (t : TxnId). entry_at effect.state t ≡ Some entry) owner e) w)
 
 -- all grants, in their order
 all_by : (sc : Scenario) (s : Server) (mail : Mail) (P : Effect Server → Type 0) → LockCases sc s mail P → (grants : List Grant) (effect : Effect Server) → Taking sc s.server P grants effect → P (after_grants sc grants effect)
@@ -334,32 +404,40 @@ all_by sc s mail P cases (grant ∷ grants) effect h =
 ends_by : (sc : Scenario) (s : Server) (mail : Mail) (P : Effect Server → Type 0) → AreRightWaits sc s → LockCases sc s mail P → (order : Settled) (letter : Letter) → P (closes s order letter) → P (ends sc s order letter)
 ends_by sc s mail P waits cases order letter h =
     all_by sc s mail P cases (after_release order.txn s.locks).grants (closes s order letter)
-    (record { holds = h; server_is = refl; waits = placed_emptied (WaitsRightly sc) s.entries order.txn.0 waits; left = refl })
+    (record { holds = h; server_is = refl; waits = placed_emptied (WaitsRightly sc s.server) s.entries order.txn.0 waits; left = refl })
 
 -- ---- Query
 
+-- by the proof of a query that has its lock, if it has one
+ran_by : (sc : Scenario) (s : Server) (mail : Mail) (P : Effect Server → Type 0) → LockCases sc s mail P → (q : QueryRequest) (query : Query) (entry : Entry) (value : ℤ) (proof : Option Verdict) → IsAsking sc s mail q query entry value
+    → lock_answer s q query entry ≡ asked.Granted → verdict_at sc s q (deed_of q.query query value) ≡ proof → P (runs_by (after_asking s q query entry) q query entry (deed_of q.query query value) proof)
+ran_by sc s mail P cases q query entry value None k e v = cases.ran q query entry value None k e (record { proof_is = v; holds = tt })
+ran_by sc s mail P cases q query entry value (Some verdict) k e v =
+    by_cond P (is_none verdict.rule) (λ fails. cases.denied q query entry value verdict k e (record { proof_is = v; fails = fails }))
+    (λ holds. cases.ran q query entry value (Some verdict) k e (record { proof_is = v; holds = holds }))
+
 answered_by_lock : (sc : Scenario) (s : Server) (mail : Mail) (P : Effect Server → Type 0) → LockCases sc s mail P → (q : QueryRequest) (query : Query) (entry : Entry) (value : ℤ) (given : Asked) → IsAsking sc s mail q query entry value
-    → lock_answer s q query entry ≡ given → P (by_lock (after_asking s q query entry) q query entry value given)
-answered_by_lock sc s mail P cases q query entry value asked.Granted k e = cases.ran q query entry value k e
+    → lock_answer s q query entry ≡ given → P (by_lock sc (after_asking s q query entry) q query entry value given)
+answered_by_lock sc s mail P cases q query entry value asked.Granted k e = ran_by sc s mail P cases q query entry value (verdict_at sc s q (deed_of q.query query value)) k e refl
 answered_by_lock sc s mail P cases q query entry value asked.Waits k e = cases.waited q query entry value k e
 answered_by_lock sc s mail P cases q query entry value (asked.Dies other) k e = cases.died q query entry value other k e
 
 valued_by : (sc : Scenario) (s : Server) (mail : Mail) (P : Effect Server → Type 0) → LockCases sc s mail P → (q : QueryRequest) (query : Query) (entry : Entry) (value : Option ℤ) → mail.letter.body ≡ body.Query q
-    → is_open s q.txn ≡ true → IsFirstHere s mail.sent q entry ⊎ IsFurther s q entry → (is_none q.staple && is_none q.pin) ≡ true → asked_query sc q ≡ Some query → value_of_run s q query ≡ value
-    → P (asks_with s q query entry value)
-valued_by sc s mail P cases q query entry None e unsettled place plain asked v = cases.ignored
-valued_by sc s mail P cases q query entry (Some value) e unsettled place plain asked v =
-    answered_by_lock sc s mail P cases q query entry value (lock_answer s q query entry) (record { said_is = e; unsettled = unsettled; place = place; plain = plain; asked_is = asked; value_is = v }) refl
+    → is_open s q.txn ≡ true → IsFirstHere s mail.sent q entry ⊎ IsFurther s q entry → is_none q.pin ≡ true → asked_query sc q ≡ Some query → value_of_run s q query ≡ value
+    → P (asks_with sc s q query entry value)
+valued_by sc s mail P cases q query entry None e unsettled place unpinned asked v = cases.ignored
+valued_by sc s mail P cases q query entry (Some value) e unsettled place unpinned asked v =
+    answered_by_lock sc s mail P cases q query entry value (lock_answer s q query entry) (record { said_is = e; unsettled = unsettled; place = place; unpinned = unpinned; asked_is = asked; value_is = v }) refl
 
 queried_by : (sc : Scenario) (s : Server) (mail : Mail) (P : Effect Server → Type 0) → LockCases sc s mail P → (q : QueryRequest) (entry : Entry) (query : Option Query) → mail.letter.body ≡ body.Query q
-    → is_open s q.txn ≡ true → IsFirstHere s mail.sent q entry ⊎ IsFurther s q entry → (is_none q.staple && is_none q.pin) ≡ true → asked_query sc q ≡ query → P (asks_query s q entry query)
-queried_by sc s mail P cases q entry None e unsettled place plain asked = cases.ignored
-queried_by sc s mail P cases q entry (Some query) e unsettled place plain asked = valued_by sc s mail P cases q query entry (value_of_run s q query) e unsettled place plain asked refl
+    → is_open s q.txn ≡ true → IsFirstHere s mail.sent q entry ⊎ IsFurther s q entry → is_none q.pin ≡ true → asked_query sc q ≡ query → P (asks_query sc s q entry query)
+queried_by sc s mail P cases q entry None e unsettled place unpinned asked = cases.ignored
+queried_by sc s mail P cases q entry (Some query) e unsettled place unpinned asked = valued_by sc s mail P cases q query entry (value_of_run s q query) e unsettled place unpinned asked refl
 
 asks_by : (sc : Scenario) (s : Server) (mail : Mail) (P : Effect Server → Type 0) → LockCases sc s mail P → (q : QueryRequest) (entry : Entry) → mail.letter.body ≡ body.Query q
     → is_open s q.txn ≡ true → IsFirstHere s mail.sent q entry ⊎ IsFurther s q entry → P (asks sc s q entry)
 asks_by sc s mail P cases q entry e unsettled place =
-    by_cond P (is_none q.staple && is_none q.pin) (λ plain. queried_by sc s mail P cases q entry (asked_query sc q) e unsettled place plain refl) (λ evaluated. cases.ignored)
+    by_cond P (is_none q.pin) (λ unpinned. queried_by sc s mail P cases q entry (asked_query sc q) e unsettled place unpinned refl) (λ pinned. cases.ignored)
 
 unlost_by : (sc : Scenario) (s : Server) (mail : Mail) (P : Effect Server → Type 0) → LockCases sc s mail P → (q : QueryRequest) (entry : Entry) (given : Option DoneReply) → mail.letter.body ≡ body.Query q
     → is_open s q.txn ≡ true → entry_at s q.txn ≡ Some entry → is_some entry.ballot ≡ false → names_another_epoch q entry ≡ false → answer_to entry q.query ≡ given → P (on_unlost_query sc s q entry given)

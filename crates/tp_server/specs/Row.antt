@@ -1,7 +1,7 @@
 -- A server's row: what it does on receipt of a mail. The first case that fits is done.
 use Rattle.std.specs.List.{find}
 use Rattle.std.specs.Option.{option_flatten, option_map_or}
-use Rattle.std.specs.Prelude.{Bool, List, None, Option, Some, [], false, if◌then◌else◌, is_none, is_some, nat_lt, not, option_and_then, option_map, slice_get, slice_set, unwrap_or, ℕ, ℤ, ◌&&◌, ◌++◌, ◌==◌, ◌∷◌}
+use Rattle.std.specs.Prelude.{Bool, List, None, Option, Some, [], false, if◌then◌else◌, is_none, is_some, nat_lt, not, option_and_then, option_map, slice_get, slice_set, unwrap_or, ℕ, ℤ, ◌++◌, ◌==◌, ◌∷◌}
 use Rattle.tp_types.specs.Effect.{Effect, ignores, logs, sends, unbuilt}
 use Rattle.tp_types.specs.Table.{is_unset}
 use Rattle.tp_types.specs.declared.records.Outcome.TheVariants.{Abort, Commit}
@@ -17,13 +17,13 @@ use Rattle.tp_model.specs.Words.body
 use Rattle.tp_model.specs.Words.log
 use Rattle.tp_model.specs.Words.no
 use Rattle.tp_model.specs.Words.vote
-use Rattle.tp_model.specs.Words.{Body, DecideRequest, Deed, DoneReply, ItemId, Letter, Mail, No, Outcome, PrepareRequest, Prepared, PushNotice, Query, QueryRequest, Scenario, Settled, Staple, Told, Transaction, TxnId, Verdict}
+use Rattle.tp_model.specs.Words.{Answer, Body, DecideRequest, Deed, DoneReply, ItemId, Letter, Mail, No, Outcome, PrepareRequest, Prepared, PushNotice, Query, QueryRequest, Scenario, Settled, Staple, Told, Transaction, TxnId, Verdict}
 use Rattle.tp_model.specs.Authorisation.{action_of}
 use Rattle.tp_model.specs.Deeds.{deed_of}
 use Rattle.tp_server.specs.declared.server.Ballot.{Ballot}
 use Rattle.tp_server.specs.declared.server.Entry.{Entry}
 use Rattle.tp_server.specs.State.{Server}
-use Rattle.tp_server.specs.Verdicts.{with_wants, verdicts_on, version_known}
+use Rattle.tp_server.specs.Verdicts.{verdict_on, verdicts_on, version_known, with_wants}
 use Rattle.tp_store.specs.Contents.{Contents}
 use Rattle.tp_store.specs.Rule.{after_apply, after_forget, after_write, first_outside_in, read_in, with_version}
 use Rattle.tp_store.specs.declared.writes.TentativeWrite.{TentativeWrite}
@@ -80,39 +80,71 @@ abbrev pub kept_by : Contents → QueryRequest → Query → ℤ → Contents
 kept_by store q (Read item into) value = store
 kept_by store q (Write item expr) value = after_write store q.txn (tentative_write q item value)
 
--- the answer to a query that ran
-abbrev pub done_reply : QueryRequest → ℕ → Deed → DoneReply
-done_reply q epoch deed =
+-- the reply to a query with an answer
+abbrev pub reply_of : QueryRequest → ℕ → Answer → DoneReply
+reply_of q epoch given =
     record {
       txn = q.txn;
       turn = q.turn;
       query = q.query;
       epoch = epoch;
-      answer = answer.Ran deed.value None;
+      answer = given;
     }
+
+abbrev pub reply_letter : Server → QueryRequest → Entry → Answer → Letter
+reply_letter s q entry given = reply s q.txn (body.Done (reply_of q entry.epoch given))
+
+-- the entry with an answer to a query
+abbrev pub with_answer : QueryRequest → Entry → Answer → Entry
+with_answer q entry given =
+    record entry { answers = entry.answers ++ reply_of q entry.epoch given ∷ [] }
+
+-- the answer to a query that ran, with its proof if it was asked with a staple
+abbrev pub ran_as : Deed → Option Verdict → Answer
+ran_as deed verdict = answer.Ran deed.value verdict
 
 -- the entry once its query ran
-abbrev pub entry_after : QueryRequest → Entry → Deed → Entry
-entry_after q entry deed =
-    record entry {
-      answers = entry.answers ++ done_reply q entry.epoch deed ∷ [];
-      deeds = entry.deeds ++ deed ∷ [];
-    }
-
-abbrev pub done_letter : Server → QueryRequest → Entry → Deed → Letter
-done_letter s q entry deed = reply s q.txn (body.Done (done_reply q entry.epoch deed))
+abbrev pub entry_after : QueryRequest → Entry → Deed → Option Verdict → Entry
+entry_after q entry deed verdict =
+    record (with_answer q entry (ran_as deed verdict)) { deeds = entry.deeds ++ deed ∷ [] }
 
 -- the server once a query ran: what was done is kept
-abbrev pub after_run : Server → QueryRequest → Query → Entry → Deed → Server
-after_run s q query entry deed = record s {
+abbrev pub after_run : Server → QueryRequest → Query → Entry → Deed → Option Verdict → Server
+after_run s q query entry deed verdict = record s {
   store = kept_by s.store q query deed.value;
-  entries = slice_set s.entries q.txn.0 (Some (entry_after q entry deed));
+  entries = slice_set s.entries q.txn.0 (Some (entry_after q entry deed verdict));
 }
 
 -- what was done is kept and answered
-abbrev pub completes : Server → QueryRequest → Query → Entry → Deed → Effect Server
-completes s q query entry deed =
-    sends (after_run s q query entry deed) (done_letter s q entry deed ∷ [])
+abbrev pub completes : Server → QueryRequest → Query → Entry → Deed → Option Verdict → Effect Server
+completes s q query entry deed verdict =
+    sends (after_run s q query entry deed verdict)
+    (reply_letter s q entry (ran_as deed verdict) ∷ [])
+
+-- an answer that ends the transaction is kept and given; the entry stays with its locks
+abbrev pub answers_with : Server → QueryRequest → Entry → Answer → Effect Server
+answers_with s q entry given =
+    sends (with_entry s q.txn (Some (with_answer q entry given)))
+    (reply_letter s q entry given ∷ [])
+
+-- the verdict on what a query does, where it was asked with a staple: by the version that the server knows
+abbrev pub verdict_at : Scenario → Server → QueryRequest → Deed → Option Verdict
+verdict_at sc s q deed =
+    option_and_then
+    (λ (staple : Staple). option_map (λ (txn : Transaction). verdict_on sc s txn staple [] deed)
+    (slice_get sc.txns q.txn.0))
+    q.staple
+
+-- where its proof is false a query does nothing
+abbrev pub runs_by : Server → QueryRequest → Query → Entry → Deed → Option Verdict → Effect Server
+runs_by s q query entry deed None = completes s q query entry deed None
+runs_by s q query entry deed (Some verdict) =
+    if is_none verdict.rule then answers_with s q entry (answer.Denied verdict)
+    else completes s q query entry deed (Some verdict)
+
+-- a query that has its lock
+abbrev pub runs : Scenario → Server → QueryRequest → Query → Entry → Deed → Effect Server
+runs sc s q query entry deed = runs_by s q query entry deed (verdict_at sc s q deed)
 
 -- ---- a query asks for its lock
 
@@ -120,30 +152,13 @@ completes s q query entry deed =
 abbrev pub waits : Server → QueryRequest → Entry → Effect Server
 waits s q entry = sends (with_entry s q.txn (Some (record entry { waiting = Some q }))) []
 
--- the answer where an older transaction stands in the way
-abbrev pub died_reply : QueryRequest → ℕ → TxnId → DoneReply
-died_reply q epoch other = record {
-  txn = q.txn;
-  turn = q.turn;
-  query = q.query;
-  epoch = epoch;
-  answer = answer.Died other;
-}
-
--- the answer is kept and given, and the entry stays with its locks
-abbrev pub dies : Server → QueryRequest → Entry → TxnId → Effect Server
-dies s q entry other =
-    sends
-    (with_entry s q.txn
-    (Some (record entry { answers = entry.answers ++ died_reply q entry.epoch other ∷ [] })))
-    (reply s q.txn (body.Done (died_reply q entry.epoch other)) ∷ [])
-
--- with its lock a query runs, and without it the query waits, or its transaction is to die
-abbrev pub by_lock : Server → QueryRequest → Query → Entry → ℤ → Asked → Effect Server
-by_lock s q query entry value Granted =
-    completes s q query entry (deed_of q.query query value)
-by_lock s q query entry value Waits = waits s q entry
-by_lock s q query entry value (Dies other) = dies s q entry other
+-- with its lock a query runs, and without it the query waits, or its transaction is to die, as an older one stands in
+-- the way
+abbrev pub by_lock : Scenario → Server → QueryRequest → Query → Entry → ℤ → Asked → Effect Server
+by_lock sc s q query entry value Granted =
+    runs sc s q query entry (deed_of q.query query value)
+by_lock sc s q query entry value Waits = waits s q entry
+by_lock sc s q query entry value (Dies other) = answers_with s q entry (answer.Died other)
 
 -- the server once a query has asked for its lock, to read or to write its item at the age of its transaction
 abbrev pub after_asking : Server → QueryRequest → Query → Entry → Server
@@ -156,20 +171,20 @@ lock_answer s q query entry =
     answer_at q.txn entry.age (item_of query) (action_of query) s.locks
 
 -- a query has a value; a write without one is asked by nobody
-abbrev pub asks_with : Server → QueryRequest → Query → Entry → Option ℤ → Effect Server
-asks_with s q query entry None = ignores s
-asks_with s q query entry (Some value) =
-    by_lock (after_asking s q query entry) q query entry value (lock_answer s q query entry)
+abbrev pub asks_with : Scenario → Server → QueryRequest → Query → Entry → Option ℤ → Effect Server
+asks_with sc s q query entry None = ignores s
+asks_with sc s q query entry (Some value) =
+    by_lock sc (after_asking s q query entry) q query entry value (lock_answer s q query entry)
 
 -- there is such a query; one that is not there is asked by nobody
-abbrev pub asks_query : Server → QueryRequest → Entry → Option Query → Effect Server
-asks_query s q entry None = ignores s
-asks_query s q entry (Some query) = asks_with s q query entry (value_of_run s q query)
+abbrev pub asks_query : Scenario → Server → QueryRequest → Entry → Option Query → Effect Server
+asks_query sc s q entry None = ignores s
+asks_query sc s q entry (Some query) = asks_with sc s q query entry (value_of_run s q query)
 
--- a query asks for its lock. What is asked with a staple or a pin is to be evaluated too
+-- a query asks for its lock. One that is asked with a pin is not built
 abbrev pub asks : Scenario → Server → QueryRequest → Entry → Effect Server
 asks sc s q entry =
-    if is_none q.staple && is_none q.pin then asks_query s q entry (asked_query sc q)
+    if is_none q.pin then asks_query sc s q entry (asked_query sc q)
     else unbuilt s
 
 -- ---- which query may ask
@@ -184,17 +199,8 @@ abbrev pub answers : Server → TxnId → DoneReply → Effect Server
 answers s txn given = sends s (reply s txn (body.Done given) ∷ [])
 
 -- what the transaction did here was lost in an earlier epoch
-abbrev pub restarted_reply : QueryRequest → ℕ → DoneReply
-restarted_reply q epoch = record {
-  txn = q.txn;
-  turn = q.turn;
-  query = q.query;
-  epoch = epoch;
-  answer = answer.Restarted;
-}
-
 abbrev pub restarts : Server → QueryRequest → Effect Server
-restarts s q = answers s q.txn (restarted_reply q s.epoch)
+restarts s q = answers s q.txn (reply_of q s.epoch answer.Restarted)
 
 -- the answer that a query was given
 abbrev pub answer_to : Entry → ℕ → Option DoneReply
@@ -304,18 +310,18 @@ without_waiting s owner =
     (option_map (λ (entry : Entry). record entry { waiting = None }) (entry_at s owner))
 
 -- a query that waited runs at its entry
-abbrev pub resumes_with : Server → QueryRequest → Query → Entry → Option ℤ → Effect Server
-resumes_with s q query entry None = ignores s
-resumes_with s q query entry (Some value) =
-    completes s q query entry (deed_of q.query query value)
+abbrev pub resumes_with : Scenario → Server → QueryRequest → Query → Entry → Option ℤ → Effect Server
+resumes_with sc s q query entry None = ignores s
+resumes_with sc s q query entry (Some value) =
+    runs sc s q query entry (deed_of q.query query value)
 
-abbrev pub resumes_query : Server → QueryRequest → Entry → Option Query → Effect Server
-resumes_query s q entry None = ignores s
-resumes_query s q entry (Some query) = resumes_with s q query entry (value_of_run s q query)
+abbrev pub resumes_query : Scenario → Server → QueryRequest → Entry → Option Query → Effect Server
+resumes_query sc s q entry None = ignores s
+resumes_query sc s q entry (Some query) = resumes_with sc s q query entry (value_of_run s q query)
 
 abbrev pub resumes_at : Scenario → Server → QueryRequest → Option Entry → Effect Server
 resumes_at sc s q None = ignores s
-resumes_at sc s q (Some entry) = resumes_query s q entry (asked_query sc q)
+resumes_at sc s q (Some entry) = resumes_query sc s q entry (asked_query sc q)
 
 abbrev pub resumes_waiting : Scenario → Server → Option QueryRequest → Effect Server
 resumes_waiting sc s None = ignores s

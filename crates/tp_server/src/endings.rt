@@ -3,6 +3,7 @@ ghost use Rattle.std.specs.Prelude.{◌≡◌, None, slice_get, IfOk};
 ghost use Rattle.tp_types.specs.Effect.{Gives};
 ghost use Rattle.std.specs.Option.{option_flatten};
 ghost use Rattle.tp_server.specs.Row as row;
+ghost use Rattle.tp_server.specs.Verdicts.{HasFewRules};
 
 use crate::server::Server;
 use std::alloc::Global;
@@ -19,6 +20,7 @@ impl<L: LockTable + Drop> Server<L> {
         scenario: &Scenario,
         request: DecideRequest,
     ) -> Result<Reaction, NoMemory>
+        requires { HasFewRules scenario.now }
         ensures { IfOk result (λ reaction.
             Gives (row.on_decide scenario.now self.old request) self.new reaction) }
     {
@@ -65,6 +67,7 @@ impl<L: LockTable + Drop> Server<L> {
         settled: Settled,
         letter: Letter,
     ) -> Result<Reaction, NoMemory>
+        requires { HasFewRules scenario.now }
         ensures { IfOk result (λ reaction.
             Gives (row.ends scenario.now self.old settled letter) self.new reaction) }
     {

@@ -1,18 +1,20 @@
 //! What a server does on a Query: it asks for a lock, and what has its lock runs.
-ghost use Rattle.std.specs.Prelude.{◌≡◌, Some, None, slice_set, IfOk, OnOk};
+ghost use Rattle.std.specs.Prelude.{◌≡◌, [], ◌∷◌, Option, Some, None, slice_set, IfOk, OnOk};
 ghost use Rattle.std.specs.Option.{option_copied};
 ghost use Rattle.tp_model.specs.Deeds as ran;
-ghost use Rattle.tp_types.specs.Effect.{Gives};
+ghost use Rattle.tp_types.specs.Effect.{Gives, sends};
+ghost use Rattle.tp_server.specs.Verdicts.{HasFewRules};
 ghost use Rattle.tp_server.specs.Row as row;
 ghost use Rattle.tp_server.specs.mirrors.Entries.{Continues, entry_of, IsNoted};
 
 use crate::server::{Entry, Server};
+use crate::verdicts::verdict_alone;
 use std::alloc::Global;
 use tp_lock::{Asked, LockTable};
 use tp_model::{action_of, deed_of, item_of, query_at};
 use tp_types::{
     Answer, Body, Deed, DoneReply, Letter, List, NoMemory, Place, Query, QueryRequest, Reaction,
-    Scenario, TryClone, TxnId, ignored, nothing, sent_alone, take_at, unbuilt,
+    Scenario, TryClone, TxnId, Verdict, ignored, nothing, sent_alone, take_at, unbuilt,
 };
 
 impl<L: LockTable + Drop> Server<L> {
@@ -23,6 +25,7 @@ impl<L: LockTable + Drop> Server<L> {
         sent: Place,
         request: &QueryRequest,
     ) -> Result<Reaction, NoMemory>
+        requires { HasFewRules scenario.now }
         ensures { IfOk result (λ reaction.
             Gives (row.on_query scenario.now self.old sent request.now) self.new reaction) }
     {
@@ -56,6 +59,7 @@ impl<L: LockTable + Drop> Server<L> {
         sent: Place,
         request: &QueryRequest,
     ) -> Result<Reaction, NoMemory>
+        requires { HasFewRules scenario.now }
         ensures { row.entry_at self.old request.now.txn ≡ None → IfOk result (λ reaction.
             Gives
             (row.on_open_query scenario.now self.old sent request.now None)
@@ -75,13 +79,14 @@ impl<L: LockTable + Drop> Server<L> {
         sent: Place,
         request: &QueryRequest,
     ) -> Result<Reaction, NoMemory>
+        requires { HasFewRules scenario.now }
         ensures { IfOk result (λ reaction.
             Gives
             (row.asks scenario.now self.old request.now
             (entry_of self.old sent request.now))
             self.new reaction) }
     {
-        if request.staple.is_some() || request.pin.is_some() {
+        if request.pin.is_some() {
             return Ok(unbuilt(alloc));
         }
         let Some(query) = asked_query(scenario, request) else {
@@ -97,11 +102,15 @@ impl<L: LockTable + Drop> Server<L> {
             .request(alloc, request.txn, age, item, action_of(query))?;
         match asked {
             Asked::Granted => {
-                let letter = self.runs(alloc, sent, request, query, value)?;
+                let letter = self.runs(alloc, scenario, sent, request, query, value)?;
                 sent_alone(alloc, letter)
             }
             Asked::Waits => self.waits(alloc, sent, request),
-            Asked::Dies { other } => self.dies(alloc, sent, request, other),
+            // an older transaction stands in the way
+            Asked::Dies { other } => {
+                let letter = self.answers_with(alloc, sent, request, Answer::Died { other })?;
+                sent_alone(alloc, letter)
+            }
         }
     }
 
@@ -135,27 +144,26 @@ impl<L: LockTable + Drop> Server<L> {
         Ok(nothing(alloc))
     }
 
-    /// An older transaction stands in the way.
+    /// An answer that ends the transaction is kept, and given by the letter.
     #[tactic(auto, using(crate::proofs::Tables::set_twice))]
-    fn dies(
+    fn answers_with(
         &mut self,
         alloc: Global,
         sent: Place,
         request: &QueryRequest,
-        other: TxnId,
-    ) -> Result<Reaction, NoMemory>
-        ensures { IfOk result (λ reaction.
-            Gives
-            (row.dies self.old request.now (entry_of self.old sent request.now) other)
-            self.new reaction) }
+        given: Answer,
+    ) -> Result<Letter, NoMemory>
+        ensures { IfOk result (λ letter.
+            row.answers_with self.old request.now (entry_of self.old sent request.now) given
+            ≡ sends self.new (letter ∷ [])) }
     {
+        let kept = given.try_clone(alloc)?;
         let mut entry = self.take_entry(alloc, sent, request);
         let epoch = entry.epoch;
-        let noted = entry.answers.push(died(request, epoch, other));
+        let noted = entry.answers.push(reply_of(request, epoch, kept));
         self.entries.put(request.txn.0 as usize, Some(entry));
         noted?;
-        let letter = self.reply(request.txn, Body::Done(died(request, epoch, other)));
-        sent_alone(alloc, letter)
+        Ok(self.reply(request.txn, Body::Done(reply_of(request, epoch, given))))
     }
 
     fn value_of_run(&self, request: &QueryRequest, query: &Query) -> Option<i128>
@@ -167,30 +175,77 @@ impl<L: LockTable + Drop> Server<L> {
         }
     }
 
-    /// What the query does is kept, and answered by the letter.
+    /// A query that has its lock runs, unless it was asked with a staple and its proof is false; the letter answers it.
     fn runs(
         &mut self,
         alloc: Global,
+        scenario: &Scenario,
         sent: Place,
         request: &QueryRequest,
         query: &Query,
         value: i128,
     ) -> Result<Letter, NoMemory>
-        ensures kept { OnOk result
-            (self.new
-            ≡ row.after_run self.old request.now query.now
+        requires { HasFewRules scenario.now }
+        ensures { IfOk result (λ letter.
+            row.runs scenario.now self.old request.now query.now
             (entry_of self.old sent request.now)
-            (ran.deed_of request.now.query query.now value)) }
-        ensures letter { IfOk result (λ letter.
-            letter
-            ≡ row.done_letter self.old request.now
-            (entry_of self.old sent request.now)
-            (ran.deed_of request.now.query query.now value)) }
+            (ran.deed_of request.now.query query.now value)
+            ≡ sends self.new (letter ∷ [])) }
     {
         let deed = deed_of(request.query, query, value);
-        let epoch = self.notes(alloc, sent, request, deed)?;
-        self.keep(alloc, request, query, value)?;
-        Ok(self.reply(request.txn, Body::Done(done(request, epoch, deed))))
+        match self.verdict_at(alloc, scenario, request, deed)? {
+            None => self.completes(alloc, sent, request, query, deed, None),
+            Some(verdict) => {
+                if verdict.rule.is_none() {
+                    return self.answers_with(alloc, sent, request, Answer::Denied { verdict });
+                }
+                self.completes(alloc, sent, request, query, deed, Some(verdict))
+            }
+        }
+    }
+
+    /// The verdict on what a query does, where it was asked with a staple: by the version that the server knows.
+    fn verdict_at(
+        &self,
+        alloc: Global,
+        scenario: &Scenario,
+        request: &QueryRequest,
+        deed: Deed,
+    ) -> Result<Option<Verdict>, NoMemory>
+        requires { HasFewRules scenario.now }
+        ensures { IfOk result (λ found.
+            found ≡ row.verdict_at scenario.now self.now request.now deed) }
+    {
+        let Some(staple) = &request.staple else {
+            return Ok(None);
+        };
+        let Some(txn) = scenario.txns.get(request.txn.0 as usize) else {
+            return Ok(None);
+        };
+        let verdict = verdict_alone(alloc, scenario, self, txn, staple, deed)?;
+        Ok(Some(verdict))
+    }
+
+    /// What the query does is kept, and answered by the letter.
+    fn completes(
+        &mut self,
+        alloc: Global,
+        sent: Place,
+        request: &QueryRequest,
+        query: &Query,
+        deed: Deed,
+        verdict: Option<Verdict>,
+    ) -> Result<Letter, NoMemory>
+        ensures { IfOk result (λ letter.
+            row.completes self.old request.now query.now (entry_of self.old sent request.now)
+            deed verdict
+            ≡ sends self.new (letter ∷ [])) }
+    {
+        let kept = verdict.try_clone(alloc)?;
+        let epoch = self.notes(alloc, sent, request, deed, kept)?;
+        self.keep(alloc, request, query, deed.value)?;
+        let given = ran_as(deed, verdict);
+        Ok(self.reply(request.txn, Body::Done(reply_of(request, epoch, given))))
     }
 
     /// What waits at an owner's entry runs, and its answer is added to the letters.
@@ -201,6 +256,7 @@ impl<L: LockTable + Drop> Server<L> {
         owner: TxnId,
         letters: &mut List<Letter>,
     ) -> Result<(), NoMemory>
+        requires { HasFewRules scenario.now }
         ensures { OnOk result
             (Continues (row.resumes scenario.now self.old owner) self.new letters.old letters.new) }
     {
@@ -220,6 +276,7 @@ impl<L: LockTable + Drop> Server<L> {
         request: &QueryRequest,
         letters: &mut List<Letter>,
     ) -> Result<(), NoMemory>
+        requires { HasFewRules scenario.now }
         ensures { OnOk result
             (Continues
             (row.resumes_at scenario.now self.old request.now
@@ -235,7 +292,7 @@ impl<L: LockTable + Drop> Server<L> {
         let Some(value) = self.value_of_run(request, query) else {
             return Ok(());
         };
-        let letter = self.runs(alloc, 0, request, query, value)?;
+        let letter = self.runs(alloc, scenario, 0, request, query, value)?;
         letters.push(letter)
     }
 
@@ -263,12 +320,14 @@ impl<L: LockTable + Drop> Server<L> {
         sent: Place,
         request: &QueryRequest,
         deed: Deed,
+        verdict: Option<Verdict>,
     ) -> Result<u64, NoMemory>
-        ensures { IfOk result (λ epoch. IsNoted self.old sent request.now deed self.new epoch) }
+        ensures { IfOk result (λ epoch.
+            IsNoted self.old sent request.now deed verdict self.new epoch) }
     {
         let mut entry = self.take_entry(alloc, sent, request);
         let epoch = entry.epoch;
-        let noted = adds_run(&mut entry, request, deed);
+        let noted = adds_run(&mut entry, request, deed, verdict);
         self.entries.put(request.txn.0 as usize, Some(entry));
         noted?;
         Ok(epoch)
@@ -317,13 +376,7 @@ impl<L: LockTable + Drop> Server<L> {
         ensures { IfOk result (λ reaction.
             Gives (row.restarts self.now request.now) self.now reaction) }
     {
-        let restarted = DoneReply {
-            txn: request.txn,
-            turn: request.turn,
-            query: request.query,
-            epoch: self.epoch,
-            answer: Answer::Restarted,
-        };
+        let restarted = reply_of(request, self.epoch, Answer::Restarted);
         self.answers(alloc, request.txn, restarted)
     }
 
@@ -365,37 +418,38 @@ fn asked_query<'a>(scenario: &'a Scenario, request: &QueryRequest) -> Option<&'a
 }
 
 /// Adds to an entry that its query ran.
-fn adds_run(entry: &mut Entry, request: &QueryRequest, deed: Deed) -> Result<(), NoMemory>
-    ensures { OnOk result (entry.new ≡ row.entry_after request.now entry.old deed) }
+fn adds_run(
+    entry: &mut Entry,
+    request: &QueryRequest,
+    deed: Deed,
+    verdict: Option<Verdict>,
+) -> Result<(), NoMemory>
+    ensures { OnOk result (entry.new ≡ row.entry_after request.now entry.old deed verdict) }
 {
-    let answer = done(request, entry.epoch, deed);
+    let answer = reply_of(request, entry.epoch, ran_as(deed, verdict));
     entry.answers.push(answer)?;
     entry.deeds.push(deed)
 }
 
-fn died(request: &QueryRequest, epoch: u64, other: TxnId) -> DoneReply
-    ensures { result ≡ row.died_reply request.now epoch other }
+/// The answer to a query that ran, with its proof if it was asked with a staple.
+fn ran_as(deed: Deed, verdict: Option<Verdict>) -> Answer
+    ensures { result ≡ row.ran_as deed verdict }
 {
-    DoneReply {
-        txn: request.txn,
-        turn: request.turn,
-        query: request.query,
-        epoch,
-        answer: Answer::Died { other },
+    Answer::Ran {
+        value: deed.value,
+        verdict,
     }
 }
 
-fn done(request: &QueryRequest, epoch: u64, deed: Deed) -> DoneReply
-    ensures { result ≡ row.done_reply request.now epoch deed }
+/// The reply to a query with an answer.
+fn reply_of(request: &QueryRequest, epoch: u64, answer: Answer) -> DoneReply
+    ensures { result ≡ row.reply_of request.now epoch answer }
 {
     DoneReply {
         txn: request.txn,
         turn: request.turn,
         query: request.query,
         epoch,
-        answer: Answer::Ran {
-            value: deed.value,
-            verdict: None,
-        },
+        answer,
     }
 }

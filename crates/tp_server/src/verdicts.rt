@@ -1,5 +1,5 @@
-//! A server's verdicts at Prepare.
-ghost use Rattle.std.specs.Prelude.{◌≡◌, ◌<◌, ◌^◌, filter, find, length, Some, IfOk};
+//! A server's verdicts, where a query runs that was asked with a staple, and at Prepare.
+ghost use Rattle.std.specs.Prelude.{◌≡◌, ◌<◌, ◌^◌, [], filter, find, length, Some, IfOk};
 ghost use Rattle.tp_model.specs.Authorisation as authorisation;
 ghost use Rattle.tp_model.specs.Credentials as credentials;
 ghost use Rattle.tp_round.specs.Laws as laws;
@@ -33,6 +33,28 @@ struct Case<'a> {
         txn.now.creds },
 }
 
+/// Those of the credentials that the transaction presents that are valid by the staple.
+fn valid_with(
+    alloc: Global,
+    scenario: &Scenario,
+    txn: &Transaction,
+    staple: &Staple,
+) -> Result<List<CredId>, NoMemory>
+    ensures { IfOk result (λ valid.
+        valid
+        ≡ filter
+        (credentials.is_valid_in scenario.now.creds staple.now.clock staple.now.revoked)
+        txn.now.creds) }
+{
+    valid_of(
+        alloc,
+        scenario.creds.as_slice(),
+        txn.creds.as_slice(),
+        staple.clock,
+        staple.revoked.as_slice(),
+    )
+}
+
 /// The verdicts on what the transaction did at the server.
 pub fn verdicts_on<L: LockTable + Drop>(
     alloc: Global,
@@ -48,13 +70,7 @@ pub fn verdicts_on<L: LockTable + Drop>(
         made ≡ verdicts.verdicts_on scenario.now server.now txn.now staple.now want.now
         deeds.now) }
 {
-    let valid = valid_of(
-        alloc,
-        scenario.creds.as_slice(),
-        txn.creds.as_slice(),
-        staple.clock,
-        staple.revoked.as_slice(),
-    )?;
+    let valid = valid_with(alloc, scenario, txn, staple)?;
     let case = Case {
         scenario,
         txn,
@@ -67,6 +83,30 @@ pub fn verdicts_on<L: LockTable + Drop>(
         made.push(verdict_on(alloc, &case, server, *deed)?)?;
     }
     Ok(made)
+}
+
+/// The verdict on one deed of the transaction, by the version that the server knows.
+pub fn verdict_alone<L: LockTable + Drop>(
+    alloc: Global,
+    scenario: &Scenario,
+    server: &Server<L>,
+    txn: &Transaction,
+    staple: &Staple,
+    deed: Deed,
+) -> Result<Verdict, NoMemory>
+    requires { HasFewRules scenario.now }
+    ensures { IfOk result (λ made.
+        made ≡ verdicts.verdict_on scenario.now server.now txn.now staple.now [] deed) }
+{
+    let valid = valid_with(alloc, scenario, txn, staple)?;
+    let case = Case {
+        scenario,
+        txn,
+        staple,
+        want: &[],
+        valid: valid.as_slice(),
+    };
+    verdict_on(alloc, &case, server, deed)
 }
 
 fn verdict_on<L: LockTable + Drop>(

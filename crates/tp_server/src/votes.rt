@@ -141,6 +141,7 @@ impl<L: LockTable + Drop> Server<L> {
         request: &PrepareRequest,
         why: No,
     ) -> Result<Reaction, NoMemory>
+        requires { HasFewRules scenario.now }
         ensures { IfOk result (λ reaction.
             Gives (row.refuses scenario.now self.old request.now why) self.new reaction) }
     {

@@ -4,12 +4,12 @@ use Rattle.std.proofs.Common.{IfSome, List, None, Option, Some, [], ap, is_some,
 use Rattle.tp_types.specs.Effect.{Effect, ignores}
 use Rattle.tp_model.specs.Words.body
 use Rattle.tp_model.specs.Words.outcome
-use Rattle.tp_model.specs.Words.{Body, Letter, Mail, Outcome, Prepared, Query, QueryRequest, Record, Scenario, ServerId, Staple, TxnId}
+use Rattle.tp_model.specs.Words.{Body, Letter, Mail, Outcome, Prepared, Query, QueryRequest, Reading, Record, Scenario, ServerId, Staple, TxnId}
 use Rattle.tp_types.proofs.EachLemmas.{each_more, placed_emptied, placed_set}
 use Rattle.tp_runs.proofs.basics.Logs.{Prepares}
-use Rattle.tp_runs.proofs.basics.Phases.{is_querying, querying_is}
+use Rattle.tp_runs.proofs.basics.Phases.{awaits_is, is_running}
 use Rattle.tp_scheme.specs.declared.moves.Point.TheVariants as point
-use Rattle.tp_coord.proofs.Rows.{Gained, IsPassed, QueryRan, coordinator_by, submit_by, timer_by}
+use Rattle.tp_coord.proofs.Rows.{ByReading, ByVotes, Gained, IsJudged, IsPassed, QueryRan, coordinator_by, submit_by, timer_by}
 use Rattle.tp_server.proofs.Rows.{AreRightWaits, IsAsking, IsFirstHere, IsFurther, server_by}
 use Rattle.tp_machine.specs.Machine.{with_age}
 use Rattle.tp_model.specs.Deeds.{deed_of}
@@ -48,15 +48,15 @@ pub record ServerAges (A : TxnId → ℕ → Type 0) (place : ℕ) (effect : Eff
   pub forces : IfSome effect.reaction.append (RecordAged A)
   pub letters : Each (LetterAged A place) effect.reaction.letters
 
--- where a coordinator knows an age; one that awaits the answer to a query knows it
+-- where a coordinator knows an age; one whose transaction runs knows it
 pub record CoordinatorAged (A : TxnId → ℕ → Type 0) (c : Coordinator) : Type 0 where
   pub age : IfSome c.age (A c.txn)
-  pub known : is_querying c.phase ≡ true → is_some c.age ≡ true
+  pub known : is_running c.phase ≡ true → is_some c.age ≡ true
 
 -- an act of a coordinator: it keeps its age
 pub record CoordinatorAges (A : TxnId → ℕ → Type 0) (place : ℕ) (c : Coordinator) (effect : Effect Coordinator) : Type 0 where
   pub same_age : effect.state.age ≡ c.age
-  pub known : is_querying effect.state.phase ≡ true → is_some c.age ≡ true
+  pub known : is_running effect.state.phase ≡ true → is_some c.age ≡ true
   pub same_txn : effect.state.txn ≡ c.txn
   pub letters : Each (LetterAged A place) effect.reaction.letters
 
@@ -80,12 +80,13 @@ server_row_ages A place sc s mail waits h m =
     (record {
       relocked = λ effect locks k. record { entries = k.entries; forces = k.forces; letters = k.letters };
       ignored = ignores_ages A place s h;
-      ran = λ q query entry value k.
+      ran = λ q query entry value proof k r.
           record {
-            entries = placed_set (EntryAged A) s.entries q.txn.0 (server.entry_after q entry (deed_of q.query query value)) h (ran_age A sc s mail q query entry value h m k);
+            entries = placed_set (EntryAged A) s.entries q.txn.0 (server.entry_after q entry (deed_of q.query query value) proof) h (ran_age A sc s mail q query entry value h m k);
             forces = tt;
             letters = (tt, tt);
           };
+      denied = λ q query entry value verdict k d. record { entries = placed_set (EntryAged A) s.entries q.txn.0 _ h (ran_age A sc s mail q query entry value h m k); forces = tt; letters = (tt, tt) };
       waited = λ q query entry value k. record { entries = placed_set (EntryAged A) s.entries q.txn.0 _ h (ran_age A sc s mail q query entry value h m k); forces = tt; letters = tt };
       died = λ q query entry value other k dying. record { entries = placed_set (EntryAged A) s.entries q.txn.0 _ h (ran_age A sc s mail q query entry value h m k); forces = tt; letters = (tt, tt) };
       restarted = λ q k. record { entries = h; forces = tt; letters = (tt, tt) };
@@ -100,7 +101,13 @@ server_row_ages A place sc s mail waits h m =
       settled = λ d k. record { entries = placed_emptied (EntryAged A) s.entries d.txn.0 h; forces = tt; letters = (tt, tt) };
       acknowledged = λ d settled k. record { entries = h; forces = tt; letters = (tt, tt) };
       pushed = λ push k. record { entries = h; forces = tt; letters = tt };
-      resumed = λ effect grant q query entry value k now.
+      resumed = λ effect grant q query entry value proof k r now.
+          record {
+            entries = placed_set (EntryAged A) effect.state.entries q.txn.0 _ now.entries (now.entries q.txn.0 entry k.found);
+            forces = now.forces;
+            letters = each_more (LetterAged A place) effect.reaction.letters _ now.letters tt;
+          };
+      resumed_denied = λ effect grant q query entry value verdict k d now.
           record {
             entries = placed_set (EntryAged A) effect.state.entries q.txn.0 _ now.entries (now.entries q.txn.0 entry k.found);
             forces = now.forces;
@@ -134,23 +141,38 @@ coordinator_row_ages A place sc c mail h =
     coordinator_by sc c mail (CoordinatorAges A place c)
     (record {
       ignored = still_ages A place c h;
+      stapled = λ tell query home k at.
+          let age_known = h.known (ap is_running k.stapling) in
+          record { same_age = refl; known = λ running. age_known; same_txn = refl; letters = (told_age A c.txn c.age place age_known h.age, tt) };
       sends_query = λ query now next passed moves home.
           let age_known = known query now passed in
-          record { same_age = refl; known = λ querying. age_known; same_txn = refl; letters = (told_age A c.txn c.age place age_known h.age, tt) };
-      commit_rounds = λ query now passed moves. record { same_age = refl; known = λ querying. absurd (cc); same_txn = refl; letters = (tt, tt) };
+          record { same_age = refl; known = λ running. age_known; same_txn = refl; letters = (told_age A c.txn c.age place age_known h.age, tt) };
+      asks_staple = λ query now passed moves. record { same_age = refl; known = λ running. known query now passed; same_txn = refl; letters = (tt, tt) };
+      commit_rounds = λ query now passed moves. record { same_age = refl; known = λ running. known query now passed; same_txn = refl; letters = (tt, tt) };
       told = λ tell round k.
-          record { same_age = refl; known = λ querying. absurd (cc); same_txn = refl; letters = prepare_letters_aged A place c (coord.next_turn c) round (coord.staple_of tell mail.sent) (coord.awaited_in round) };
-      counted = λ reply round staple server verdicts y. record { same_age = refl; known = λ querying. absurd (cc); same_txn = refl; letters = tt };
-      decides = λ instances rounds passed. record { same_age = refl; known = λ querying. absurd (cc); same_txn = refl; letters = orders_aged A place c outcome.Commit c.servers };
-      aborted = λ why ended. record { same_age = refl; known = λ querying. absurd (cc); same_txn = refl; letters = orders_aged A place c outcome.Abort c.servers };
-      updated = λ reply round staple server verdicts named y e. record { same_age = refl; known = λ querying. absurd (cc); same_txn = refl; letters = (tt, tt) };
-      acknowledged = λ ack ended awaited server a. record { same_age = refl; known = λ querying. absurd (cc); same_txn = refl; letters = tt };
+          record {
+            same_age = refl;
+            known = λ running. h.known (ap is_running k.asking);
+            same_txn = refl;
+            letters = prepare_letters_aged A place c (coord.next_turn c) round (coord.staple_of tell mail.sent) (coord.awaited_in round);
+          };
+      counted = λ reply round staple server verdicts y. record { same_age = refl; known = λ running. h.known (ap is_running y.checking); same_txn = refl; letters = tt };
+      probed = λ reply round staple server verdicts y whole reads. record { same_age = refl; known = λ running. h.known (ap is_running y.checking); same_txn = refl; letters = (tt, tt) };
+      decides = λ instances rounds passed. record { same_age = refl; known = λ running. absurd (cc); same_txn = refl; letters = orders_aged A place c outcome.Commit c.servers };
+      aborted = λ why ended. record { same_age = refl; known = λ running. absurd (cc); same_txn = refl; letters = orders_aged A place c outcome.Abort c.servers };
+      updated = λ round staple reading named j e. record { same_age = refl; known = λ running. judged_known round staple reading j; same_txn = refl; letters = (tt, tt) };
+      acknowledged = λ ack ended awaited server a. record { same_age = refl; known = λ running. absurd (cc); same_txn = refl; letters = tt };
       inquired = λ inquiry ended awaited server k. record { same_age = refl; known = h.known; same_txn = refl; letters = orders_aged A place c ended (server ∷ []) };
     })
   where
     -- where a query ran, the age is known
     known : (query : ℕ) (now : Gained) → IsPassed sc c mail (point.Ran query) now → is_some c.age ≡ true
-    known _ _ (QueryRan done server asked value k) = h.known (querying_is c c.phase done k.awaited)
+    known _ _ (QueryRan done server asked value proof k) = h.known (ap is_running (awaits_is c c.phase done k.awaited).1)
+
+    -- and where a round is judged
+    judged_known : (round : Round) (staple : Option Staple) (reading : Option Reading) → IsJudged c mail round staple reading → is_some c.age ≡ true
+    judged_known _ _ _ (ByVotes reply round staple server verdicts y whole unread) = h.known (ap is_running y.checking)
+    judged_known _ _ _ (ByReading reply round k) = h.known (ap is_running k.reading)
 
 -- ---- Submit
 
@@ -171,7 +193,8 @@ submit_row_ages A place sc c h m =
     submit_by sc c (λ (effect : Effect Coordinator). SubmissionAges A place c (with_age effect place))
     (record {
       ignored = record { age_is = refl; same_txn = refl; letters = tt };
-      sent = λ server home. record { age_is = refl; same_txn = refl; letters = (told_or_sent A c.txn c.age place m h, tt) };
+      sent = λ server begins home. record { age_is = refl; same_txn = refl; letters = (told_or_sent A c.txn c.age place m h, tt) };
+      asked = λ begins. record { age_is = refl; same_txn = refl; letters = (tt, tt) };
     })
 
 -- ---- timers
@@ -182,8 +205,10 @@ repeats_aged A place sc c h =
     timer_by sc c (Each (LetterAged A place))
     (record {
       silent = tt;
-      queried = λ number server querying home. (told_age A c.txn c.age place (h.known (ap is_querying querying)) h.age, tt);
+      stapled = λ number stapling. (tt, tt);
+      queried = λ number staple server querying home. (told_age A c.txn c.age place (h.known (ap is_running querying)) h.age, tt);
       asked = λ over round asking. (tt, tt);
       prepared = λ round staple checking. prepare_letters_aged A place c c.turn round staple (coord.awaited_in round);
+      read = λ over round reading. (tt, tt);
       ordered = λ ended awaited ending. orders_aged A place c ended awaited;
     })

@@ -63,12 +63,12 @@ coordinator_booted_ages : (sc : Scenario) (w : State) (txn : TxnId) (part : Part
 coordinator_booted_ages sc w txn part None h =
     let taken = step.Boot (actor.Coordinator txn) in
     let effect = coord_boot.boot_by sc txn None in
-    coordinator_acts_ages w taken txn part.log (Some effect.state) [] effect.reaction.append effect.reaction.letters h (record { age = tt; known = λ querying. absurd (cc) })
+    coordinator_acts_ages w taken txn part.log (Some effect.state) [] effect.reaction.append effect.reaction.letters h (record { age = tt; known = λ running. absurd (cc) })
     (orders_aged (Now w taken) (length w.steps) (idle sc txn) outcome.Abort (idle sc txn).servers)
 coordinator_booted_ages sc w txn part (Some decision_is) h =
     let taken = step.Boot (actor.Coordinator txn) in
     let effect = coord_boot.boot_by sc txn (Some decision_is) in
-    coordinator_acts_ages w taken txn part.log (Some effect.state) [] effect.reaction.append effect.reaction.letters h (record { age = tt; known = λ querying. absurd (cc) })
+    coordinator_acts_ages w taken txn part.log (Some effect.state) [] effect.reaction.append effect.reaction.letters h (record { age = tt; known = λ running. absurd (cc) })
     (orders_aged (Now w taken) (length w.steps) (idle sc txn) (outcome_of decision_is) (idle sc txn).servers)
 
 -- ---- all of them

@@ -166,7 +166,7 @@ aged_still : (A : TxnId → ℕ → Type 0) (place : ℕ) (c : Coordinator) (eff
 aged_still A place c effect t h =
     record {
       age = subst (λ (age : Option ℕ). IfSome age (A effect.state.txn)) (sym t.same_age) (subst (λ (txn : TxnId). IfSome c.age (A txn)) (sym t.same_txn) h.age);
-      known = λ querying. ap (λ (age : Option ℕ). is_some age) t.same_age ∙ t.known querying;
+      known = λ running. ap (λ (age : Option ℕ). is_some age) t.same_age ∙ t.known running;
     }
 
 -- one that is submitted knows its age
@@ -174,7 +174,7 @@ aged_now : (A : TxnId → ℕ → Type 0) (place : ℕ) (c : Coordinator) (effec
 aged_now A place c effect t m =
     record {
       age = subst (λ (age : Option ℕ). IfSome age (A effect.state.txn)) (sym t.age_is) (subst (λ (txn : TxnId). A txn place) (sym t.same_txn) m);
-      known = λ querying. ap (λ (age : Option ℕ). is_some age) t.age_is;
+      known = λ running. ap (λ (age : Option ℕ). is_some age) t.age_is;
     }
 
 -- the authority's answers tell no age
@@ -260,6 +260,6 @@ ages_opening sc =
       servers = λ n part e. at_made (λ (k : ℕ) (found : Part Server). ServerPartAged (IsSubmission []) found) (λ (k : ℕ). opened_part (server_opened.opening sc (record { 0 = k }))) 0 (length sc.servers)
           (λ k within. record { entries = placed_none (EntryAged (IsSubmission [])) (length sc.txns); prepared = λ txn p f. absurd (cc) }) n part e;
       coordinators = λ n part e. at_made (λ (k : ℕ) (found : Part Coordinator). IfSome found.up (CoordinatorAged (IsSubmission []))) (λ (k : ℕ). opened_part (coord_opened.idle sc (record { 0 = k }))) 0 (length sc.txns)
-          (λ k within. record { age = tt; known = λ querying. absurd (cc) }) n part e;
+          (λ k within. record { age = tt; known = λ running. absurd (cc) }) n part e;
       sent = tt;
     }

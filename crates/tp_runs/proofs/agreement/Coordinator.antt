@@ -17,28 +17,27 @@ use Rattle.tp_model.specs.Words.decision
 use Rattle.tp_model.specs.Words.log
 use Rattle.tp_model.specs.Words.outcome
 use Rattle.tp_model.specs.Words.vote
-use Rattle.tp_model.specs.Words.{AckReply, Actor, Body, Cause, DecideRequest, Decision, DoneReply, InquireRequest, Instance, Item, Letter, Mail, Outcome, Query, Record, Scenario, ServerId, Staple, Transaction, TxnId, Verdict, Vote, VoteReply}
+use Rattle.tp_model.specs.Words.{AckReply, Actor, Body, Cause, DecideRequest, Decision, DoneReply, InquireRequest, Instance, Item, Letter, Mail, Outcome, Query, Reading, Record, Scenario, ServerId, Staple, Transaction, TxnId, Verdict, Vote, VoteReply}
 use Rattle.tp_runs.proofs.basics.Homes.{IsHome, home_is}
 use Rattle.tp_runs.proofs.basics.Ids.{same_server_is}
 use Rattle.tp_types.proofs.EachLemmas.{each_as, each_filter}
-use Rattle.tp_runs.proofs.basics.Rounds.{EachServer, all_in, each_missing, each_renewed, each_replied, each_started, is_in, judged_whole, missing_in, none_missing, replied_is, updated_is}
+use Rattle.tp_runs.proofs.basics.Rounds.{EachServer, all_in, each_missing, each_renewed, each_replied, each_started, is_in, missing_in, none_missing, replied_is, updated_is}
 use Rattle.tp_runs.proofs.basics.Servers.{servers_over_have}
 use Rattle.tp_runs.proofs.basics.Logs.{appended, decided_with}
 use Rattle.tp_scheme.specs.declared.moves.Point.TheVariants as point
-use Rattle.tp_coord.proofs.Rows.{AllTrue, ByLoss, ByOlder, ByProof, ByRefusal, ByRestart, Gained, HasVoted, IsAck, IsEnded, IsInquiry, IsPassed, IsYes, QueryRan, coordinator_by, gains_instances, submit_by, timer_by, with_gained}
+use Rattle.tp_coord.proofs.Rows.{AllTrue, ByDenial, ByLoss, ByOlder, ByProof, ByReading, ByRefusal, ByRestart, ByRounds, ByVotes, Gained, HasVoted, IsAck, IsEnded, IsInquiry, IsJudged, IsPassed, IsYes, QueryRan, coordinator_by, gains_instances, submit_by, timer_by, with_gained}
 use Rattle.tp_recover.specs.Log.{decided_in, decision_in}
 use Rattle.tp_machine.specs.Machine.{log_with, with_age}
 use Rattle.tp_types.specs.Each.{Each}
 use Rattle.tp_coord.specs.Opened.{servers_at}
-use Rattle.tp_coord.specs.Row.{aborts, asks, awaits_query, commit_round, commits, coordinator_row, decide_letters, is_begun, next_number, next_turn, prepare_letter, prepares, own_query, repeats, request, sends_query, server_of, staple_of, submit_row, without}
+use Rattle.tp_coord.specs.Row.{aborts, asks, asks_in, awaits_query, commit_round, commits, coordinator_row, decide_letters, is_begun, next_number, next_turn, prepare_letter, prepares, probes, own_query, repeats, request, sends_query, server_of, staple_of, submit_row, without}
 use Rattle.tp_coord.specs.State.{Coordinator}
 use Rattle.tp_coord.specs.declared.coordinator.Phase.TheVariants as phase
 use Rattle.tp_coord.specs.declared.coordinator.Phase.{Phase}
 use Rattle.tp_coord.specs.declared.coordinator.Span.TheVariants as span
 use Rattle.tp_coord.specs.declared.coordinator.Span.{Span}
-use Rattle.tp_round.specs.Judge.{after_judgement, after_reply, aim_in, judge, met_in, mets_in, new_target, next_round}
+use Rattle.tp_round.specs.Judge.{after_judgement, after_reply, aim_in, is_missing, judge, met_in, mets_in, new_target, next_round}
 use Rattle.tp_round.specs.declared.round.Judged.TheVariants as judged
-use Rattle.tp_round.specs.declared.round.Judged.{Judged}
 use Rattle.tp_round.specs.declared.round.Round.{Round}
 use Rattle.tp_round.specs.declared.round.Wanted.{Wanted}
 
@@ -298,10 +297,15 @@ asks_lawful sc P S c kept round d b s items replied =
       letters = (tt, tt);
     }
 
+-- before a query the authority is asked
+staples_lawful : (sc : Scenario) (P S : ServerId → Type 0) (c : Coordinator) (kept : List Record) (number : ℕ) → decided_in kept ≡ None → is_begun c.phase ≡ true → c.servers ≡ servers_at sc c.txn
+    → CoordinatorLawful sc P S c kept (asks_in c (phase.Stapling number))
+staples_lawful sc P S c kept number d b s = record { agrees = record { decided = d; servers = s; awaited = tt }; replied = tt; same_begun = sym b; same_txn = refl; fresh = tt; letters = (tt, tt) }
+
 -- a query is asked, which is sent to a server with an item of the transaction
-sends_query_lawful : (sc : Scenario) (P S : ServerId → Type 0) (c : Coordinator) (kept : List Record) (number : ℕ) (at : ServerId) → decided_in kept ≡ None → is_begun c.phase ≡ true → c.servers ≡ servers_at sc c.txn
-    → IsHome sc c number at → CoordinatorLawful sc P S c kept (sends_query sc c number at)
-sends_query_lawful sc P S c kept number at d b s k =
+sends_query_lawful : (sc : Scenario) (P S : ServerId → Type 0) (c : Coordinator) (kept : List Record) (number : ℕ) (staple : Option Staple) (at : ServerId) → decided_in kept ≡ None → is_begun c.phase ≡ true
+    → c.servers ≡ servers_at sc c.txn → IsHome sc c number at → CoordinatorLawful sc P S c kept (sends_query sc c number staple at)
+sends_query_lawful sc P S c kept number staple at d b s k =
     record {
       agrees = record { decided = d; servers = s; awaited = tt };
       replied = tt;
@@ -394,21 +398,51 @@ yes_counted sc P S c kept mail reply round staple server verdicts h m y =
       prepared = all_but_reply P round server verdicts (servers_at sc c.txn) (prepared undecided) (subst (λ (p : Phase). PhaseRests P S p (servers_at sc c.txn)) y.checking h.replied);
     }
 
--- where all have replied each server has prepared
-whole_prepared : (sc : Scenario) (P S : ServerId → Type 0) (c : Coordinator) (kept : List Record) (round : Round) (answer : Judged) → IsCounted sc P S c kept round → judge round None ≡ answer
-    → (answer ≡ judged.Waiting → ⊥) → Each P (servers_at sc c.txn)
-whole_prepared sc P S c kept round answer k e other =
-    none_awaited P (servers_at sc c.txn) (subst (λ (missing : List ServerId). AllBut P missing (servers_at sc c.txn)) (none_missing round.targets (judged_whole round answer e other)) k.prepared)
+-- where a reply of all has come each server has prepared
+whole_prepared : (sc : Scenario) (P S : ServerId → Type 0) (c : Coordinator) (kept : List Record) (round : Round) → IsCounted sc P S c kept round → list_any is_missing round.targets ≡ false → Each P (servers_at sc c.txn)
+whole_prepared sc P S c kept round k whole = none_awaited P (servers_at sc c.txn) (subst (λ (missing : List ServerId). AllBut P missing (servers_at sc c.txn)) (none_missing round.targets whole) k.prepared)
+
+-- the master is read once all have replied
+probes_lawful : (sc : Scenario) (P S : ServerId → Type 0) (c : Coordinator) (kept : List Record) (round : Round) → c.servers ≡ servers_at sc c.txn → IsCounted sc P S c kept round → list_any is_missing round.targets ≡ false
+    → CoordinatorLawful sc P S c kept (probes c (phase.Reading span.Commit round))
+probes_lawful sc P S c kept round s k whole =
+    record {
+      agrees = record { decided = k.undecided; servers = s; awaited = k.items };
+      replied = subst (λ (missing : List ServerId). AllBut P missing (servers_at sc c.txn)) (none_missing round.targets whole) k.prepared;
+      same_begun = sym k.begun;
+      same_txn = refl;
+      fresh = tt;
+      letters = (tt, tt);
+    }
+
+-- what is known where a round is judged: each server has prepared
+record IsWhole (sc : Scenario) (P S : ServerId → Type 0) (c : Coordinator) (kept : List Record) (round : Round) : Type 0 where
+  pub undecided : decided_in kept ≡ None
+  pub begun : is_begun c.phase ≡ true
+  pub items : EachServer (HoldsItem sc c.txn) round.targets
+  pub prepared : Each P (servers_at sc c.txn)
+
+judged_counted : (sc : Scenario) (P S : ServerId → Type 0) (c : Coordinator) (kept : List Record) (mail : Mail) (round : Round) (staple : Option Staple) (reading : Option Reading)
+    → Keeps sc P S c kept → ReplyRests P S (HoldsItem sc c.txn) (decided_in kept) mail.letter.from mail.letter.body → IsJudged c mail round staple reading → IsWhole sc P S c kept round
+judged_counted sc P S c kept mail _ _ _ h m (ByVotes reply round staple server verdicts y whole unread) =
+    let k = yes_counted sc P S c kept mail reply round staple server verdicts h m y in
+    record { undecided = k.undecided; begun = k.begun; items = k.items; prepared = whole_prepared sc P S c kept (after_reply round server verdicts) k whole }
+judged_counted sc P S c kept mail _ _ _ h m (ByReading reply round k) =
+    record {
+      undecided = subst (λ (p : Phase). PhaseAgrees p (decided_in kept)) k.reading h.agrees.decided;
+      begun = ap is_begun k.reading;
+      items = subst (PhaseHasItems sc c.txn) k.reading h.agrees.awaited;
+      prepared = none_awaited P (servers_at sc c.txn) (subst (λ (p : Phase). PhaseRests P S p (servers_at sc c.txn)) k.reading h.replied);
+    }
 
 -- the next round after an update
-updated_lawful : (sc : Scenario) (P S : ServerId → Type 0) (c : Coordinator) (kept : List Record) (round : Round) (named : List Wanted) → IsCounted sc P S c kept round → c.servers ≡ servers_at sc c.txn
-    → judge round None ≡ judged.Update named → CoordinatorLawful sc P S c kept (asks c span.Commit (after_judgement round None))
-updated_lawful sc P S c kept round named k s e =
-    let next = next_round round (aim_in round None) named (mets_in round (met_in round None)) in
-    let prepared : Each P (servers_at sc c.txn) = whole_prepared sc P S c kept round (judged.Update named) k e (λ f. cc) in
-    subst (λ (r : Round). CoordinatorLawful sc P S c kept (asks c span.Commit r)) (sym (updated_is round named e))
-    (asks_lawful sc P S c kept next k.undecided k.begun s (each_renewed (HoldsItem sc c.txn) (aim_in round None) round.targets k.items)
-    (each_as P (λ (at : ServerId). is_in (missing_in next.targets) at ≡ false → P at) (λ at p left. p) (servers_at sc c.txn) prepared))
+updated_lawful : (sc : Scenario) (P S : ServerId → Type 0) (c : Coordinator) (kept : List Record) (round : Round) (reading : Option Reading) (named : List Wanted) → IsWhole sc P S c kept round → c.servers ≡ servers_at sc c.txn
+    → judge round reading ≡ judged.Update named → CoordinatorLawful sc P S c kept (asks c span.Commit (after_judgement round reading))
+updated_lawful sc P S c kept round reading named k s e =
+    let next = next_round round (aim_in round reading) named (mets_in round (met_in round reading)) in
+    subst (λ (r : Round). CoordinatorLawful sc P S c kept (asks c span.Commit r)) (sym (updated_is round reading named e))
+    (asks_lawful sc P S c kept next k.undecided k.begun s (each_renewed (HoldsItem sc c.txn) (aim_in round reading) round.targets k.items)
+    (each_as P (λ (at : ServerId). is_in (missing_in next.targets) at ≡ false → P at) (λ at p left. p) (servers_at sc c.txn) k.prepared))
 
 acknowledged_lawful : (sc : Scenario) (P S : ServerId → Type 0) (c : Coordinator) (kept : List Record) (mail : Mail) (ack : AckReply) (ended : Outcome) (awaited : List ServerId) (server : ServerId)
     → Keeps sc P S c kept → ReplyRests P S (HoldsItem sc c.txn) (decided_in kept) mail.letter.from mail.letter.body → IsAck c mail ack ended awaited server
@@ -467,15 +501,22 @@ coordinator_row_lawful sc P S c kept mail h m =
     coordinator_by sc c mail (CoordinatorLawful sc P S c kept)
     (record {
       ignored = ignores_lawful_in_coordinator sc P S c kept h;
+      stapled = λ tell query server k home.
+          let undecided : decided_in kept ≡ None = subst (λ (p : Phase). PhaseAgrees p (decided_in kept)) k.stapling h.agrees.decided in
+          sends_query_lawful sc P S c kept query (Some (staple_of tell mail.sent)) server undecided (ap is_begun k.stapling) h.agrees.servers (home_is sc c query server home);
       sends_query = λ query now next passed moves home.
           let free = undecided query now passed in
           let further : IsHome sc c (next_number query) next = home_is sc c (next_number query) next home in
-          let on = sends_query_lawful sc P S (with_gained c now) kept (next_number query) next free.0 free.1 h.agrees.servers
+          let on = sends_query_lawful sc P S (with_gained c now) kept (next_number query) None next free.0 free.1 h.agrees.servers
           (record { asked = further.asked; asked_is = further.asked_is; server_is = further.server_is }) in
+          record { agrees = on.agrees; replied = on.replied; same_begun = sym free.1; same_txn = refl; fresh = tt; letters = on.letters };
+      asks_staple = λ query now passed moves.
+          let free = undecided query now passed in
+          let on = staples_lawful sc P S (with_gained c now) kept (next_number query) free.0 free.1 h.agrees.servers in
           record { agrees = on.agrees; replied = on.replied; same_begun = sym free.1; same_txn = refl; fresh = tt; letters = on.letters };
       commit_rounds = λ query now passed moves.
           let free = undecided query now passed in
-          let on = asks_lawful sc P S (with_gained c now) kept (commit_round c) free.0 free.1 h.agrees.servers
+          let on = asks_lawful sc P S (with_gained c now) kept (commit_round sc c) free.0 free.1 h.agrees.servers
           (each_started (HoldsItem sc c.txn) c.servers (subst (HaveItems sc c.txn) (sym h.agrees.servers) (servers_at_have_items sc c.txn)))
           (subst (λ (servers : List ServerId). AllBut P (missing_in (map new_target servers)) (servers_at sc c.txn)) (sym h.agrees.servers) (all_but_new P (servers_at sc c.txn))) in
           record { agrees = on.agrees; replied = on.replied; same_begun = sym free.1; same_txn = refl; fresh = tt; letters = on.letters };
@@ -490,14 +531,15 @@ coordinator_row_lawful sc P S c kept mail h m =
             fresh = tt;
             letters = tt;
           };
+      probed = λ reply round staple server verdicts y whole reads.
+          probes_lawful sc P S c kept (after_reply round server verdicts) h.agrees.servers (counted_yes reply round staple server verdicts y) whole;
       decides = λ instances rounds passed.
           let free = undecided_voted instances rounds passed in
           commits_lawful sc P S c kept instances rounds h free.0 free.1 (all_prepared instances rounds passed);
       aborted = λ why ended.
           let free = undecided_at_end why ended in
           aborts_lawful sc P S c kept why h free.0 free.1;
-      updated = λ reply round staple server verdicts named y e.
-          updated_lawful sc P S c kept (after_reply round server verdicts) named (counted_yes reply round staple server verdicts y) h.agrees.servers e;
+      updated = λ round staple reading named j e. updated_lawful sc P S c kept round reading named (whole_at round staple reading j) h.agrees.servers e;
       acknowledged = λ ack ended awaited server a. acknowledged_lawful sc P S c kept mail ack ended awaited server h m a;
       inquired = λ inquiry ended awaited server k. inquired_lawful sc P S c kept mail inquiry ended awaited server h m k;
     })
@@ -505,26 +547,30 @@ coordinator_row_lawful sc P S c kept mail h m =
     counted_yes : (reply : VoteReply) (round : Round) (staple : Staple) (server : ServerId) (verdicts : List Verdict) → IsYes c mail reply round staple server verdicts → IsCounted sc P S c kept (after_reply round server verdicts)
     counted_yes reply round staple server verdicts y = yes_counted sc P S c kept mail reply round staple server verdicts h m y
 
+    whole_at : (round : Round) (staple : Option Staple) (reading : Option Reading) → IsJudged c mail round staple reading → IsWhole sc P S c kept round
+    whole_at round staple reading j = judged_counted sc P S c kept mail round staple reading h m j
+
     -- a point is passed before the decision
     undecided : (query : ℕ) (now : Gained) → IsPassed sc c mail (point.Ran query) now → (decided_in kept ≡ None) × (is_begun c.phase ≡ true)
-    undecided _ _ (QueryRan done server asked value k) = awaiting_query c c.phase done (decided_in kept) k.awaited h.agrees.decided
+    undecided _ _ (QueryRan done server asked value proof k) = awaiting_query c c.phase done (decided_in kept) k.awaited h.agrees.decided
 
     undecided_voted : (instances : List Instance) (rounds : ℕ) → HasVoted sc c mail point.Voted instances rounds → (decided_in kept ≡ None) × (is_begun c.phase ≡ true)
-    undecided_voted _ _ (AllTrue reply round staple server verdicts k) = let counted = counted_yes reply round staple server verdicts k.yes in (counted.undecided, counted.begun)
+    undecided_voted _ _ (AllTrue round staple reading k) = let whole = whole_at round staple reading k.is_judged in (whole.undecided, whole.begun)
 
     -- and so is an end
     undecided_at_end : (why : Cause) → IsEnded sc c mail why → (decided_in kept ≡ None) × (is_begun c.phase ≡ true)
     undecided_at_end _ (ByOlder done server asked other k) = awaiting_query c c.phase done (decided_in kept) k.awaited h.agrees.decided
-    undecided_at_end _ (ByProof reply round staple server verdicts verdict y e) = let counted = counted_yes reply round staple server verdicts y in (counted.undecided, counted.begun)
+    undecided_at_end _ (ByRestart done server asked k) = awaiting_query c c.phase done (decided_in kept) k.awaited h.agrees.decided
+    undecided_at_end _ (ByDenial done server asked verdict k) = awaiting_query c c.phase done (decided_in kept) k.awaited h.agrees.decided
+    undecided_at_end _ (ByProof round staple reading verdict j e) = let whole = whole_at round staple reading j in (whole.undecided, whole.begun)
+    undecided_at_end _ (ByRounds reply round mets k e) = (subst (λ (p : Phase). PhaseAgrees p (decided_in kept)) k.reading h.agrees.decided, ap is_begun k.reading)
     undecided_at_end _ (ByRefusal reply round staple server number value k) =
         (subst (λ (p : Phase). PhaseAgrees p (decided_in kept)) k.checking h.agrees.decided, ap is_begun k.checking)
-    undecided_at_end _ (ByRestart done server asked k) = awaiting_query c c.phase done (decided_in kept) k.awaited h.agrees.decided
     undecided_at_end _ (ByLoss reply round staple server k) = (subst (λ (p : Phase). PhaseAgrees p (decided_in kept)) k.checking h.agrees.decided, ap is_begun k.checking)
 
     -- where all have voted, all are prepared
     all_prepared : (instances : List Instance) (rounds : ℕ) → HasVoted sc c mail point.Voted instances rounds → Each P (servers_at sc c.txn)
-    all_prepared _ _ (AllTrue reply round staple server verdicts k) =
-        whole_prepared sc P S c kept (after_reply round server verdicts) judged.AllTrue (counted_yes reply round staple server verdicts k.yes) k.all_true (λ f. cc)
+    all_prepared _ _ (AllTrue round staple reading k) = (whole_at round staple reading k.is_judged).prepared
 
 -- ---- Submit
 
@@ -545,7 +591,7 @@ pub record IsUnforced (c : Coordinator) (effect : Effect Coordinator) : Type 0 w
 pub submission_unforced : (sc : Scenario) (c : Coordinator) (place : ℕ) → IsUnforced c (with_age (submit_row sc c) place)
 submission_unforced sc c place =
     submit_by sc c (λ (effect : Effect Coordinator). IsUnforced c (with_age effect place))
-    (record { ignored = record { same_txn = refl; forces = refl }; sent = λ server home. record { same_txn = refl; forces = refl } })
+    (record { ignored = record { same_txn = refl; forces = refl }; sent = λ server moves home. record { same_txn = refl; forces = refl }; asked = λ moves. record { same_txn = refl; forces = refl } })
 
 -- the submission of a transaction that was not submitted before, and whose first row begins it
 pub submit_row_lawful : (sc : Scenario) (P S : ServerId → Type 0) (c : Coordinator) (kept : List Record) (place : ℕ) → Keeps sc P S c kept → is_begun c.phase ≡ false
@@ -555,7 +601,7 @@ submit_row_lawful sc P S c kept place h e b =
     (record {
       ignored = λ begun.
           record { agrees = record { decided = h.agrees.decided; servers = h.agrees.servers; awaited = h.agrees.awaited }; replied = h.replied; begun = begun; same_txn = refl; forces = refl; letters = tt };
-      sent = λ server home begun.
+      sent = λ server moves home begun.
           let k : IsHome sc c 1 server = home_is sc c 1 server home in
           record {
             agrees = record { decided = undecided_idle c.phase (decided_in kept) e h.agrees.decided; servers = h.agrees.servers; awaited = tt };
@@ -564,6 +610,15 @@ submit_row_lawful sc P S c kept place h e b =
             same_txn = refl;
             forces = refl;
             letters = (record { same_txn = refl; item = asked_has_item sc c 1 k.asked server k.asked_is k.server_is; submitted = refl }, tt);
+          };
+      asked = λ moves begun.
+          record {
+            agrees = record { decided = undecided_idle c.phase (decided_in kept) e h.agrees.decided; servers = h.agrees.servers; awaited = tt };
+            replied = tt;
+            begun = refl;
+            same_txn = refl;
+            forces = refl;
+            letters = (tt, tt);
           };
     }) b
 
@@ -575,10 +630,12 @@ repeats_lawful sc P S c kept h =
     timer_by sc c (Each (LetterAgrees sc c.txn true (decided_in kept)))
     (record {
       silent = tt;
-      queried = λ number server querying home.
+      stapled = λ number stapling. (tt, tt);
+      queried = λ number staple server querying home.
           let k : IsHome sc c number server = home_is sc c number server home in
           (record { same_txn = refl; item = asked_has_item sc c number k.asked server k.asked_is k.server_is; submitted = refl }, tt);
       asked = λ over round asking. (tt, tt);
+      read = λ over round reading. (tt, tt);
       prepared = λ round staple checking.
           let items : EachServer (HoldsItem sc c.txn) round.targets = subst (PhaseHasItems sc c.txn) checking h.agrees.awaited in
           prepare_letters_lawful sc c true (decided_in kept) c.turn round staple (missing_in round.targets) refl (each_missing (HoldsItem sc c.txn) round.targets items);

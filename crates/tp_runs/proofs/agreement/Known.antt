@@ -11,7 +11,7 @@ use Rattle.tp_types.proofs.EachLemmas.{set_here}
 use Rattle.tp_runs.proofs.basics.Logs.{known_with, told_by}
 use Rattle.tp_runs.proofs.basics.Stores.{ended_known, kept_known}
 use Rattle.tp_runs.proofs.basics.Versions.{set_keeps}
-use Rattle.tp_server.proofs.Rows.{AreRightWaits, resuming, server_by}
+use Rattle.tp_server.proofs.Rows.{AreRightWaits, denying, resuming, server_by}
 use Rattle.tp_round.specs.Judge.{version_number}
 use Rattle.tp_recover.specs.Log.{known_in}
 use Rattle.tp_machine.specs.Machine.{log_with}
@@ -113,6 +113,16 @@ pushed_learns s push =
       forces = λ admin within. pushed_told (same_admin push.admin admin) s.store push admin refl within;
     }
 
+-- what waited learns nothing as it goes on
+still_followed : (s : Server) (effect further : Effect Server) → further.state.store.known ≡ effect.state.store.known → Learns s effect → Learns s (followed_by effect further)
+still_followed s effect further same now =
+    let number : (admin : AdminId) → (version_known further.state admin).0 ≡ (version_known effect.state admin).0 = λ admin.
+    ap (λ (known : List Version). (unwrap_or (slice_get known admin.0) (record { 0 = 1 })).0) same in
+    record {
+      raises = λ admin. omega (arith, number admin, now.raises admin);
+      forces = λ admin within. omega (arith, number admin, now.forces admin within);
+    }
+
 -- every row of a server
 pub row_learns : (sc : Scenario) (s : Server) (mail : Mail) → AreRightWaits sc s → Learns s (server_row sc s mail)
 row_learns sc s mail waits =
@@ -120,7 +130,8 @@ row_learns sc s mail waits =
     (record {
       relocked = λ effect locks k. record { raises = k.raises; forces = k.forces };
       ignored = still_learns s _ refl (λ admin. refl);
-      ran = λ q query entry value k. still_learns s _ (kept_known s.store q query value) (λ admin. refl);
+      ran = λ q query entry value proof k r. still_learns s _ (kept_known s.store q query value) (λ admin. refl);
+      denied = λ q query entry value verdict k d. still_learns s _ refl (λ admin. refl);
       waited = λ q query entry value k. still_learns s _ refl (λ admin. refl);
       died = λ q query entry value other k dying. still_learns s _ refl (λ admin. refl);
       restarted = λ q k. still_learns s _ refl (λ admin. refl);
@@ -136,12 +147,6 @@ row_learns sc s mail waits =
       settled = λ d k. still_learns s _ (ended_known s.store d.txn d.outcome) (λ admin. refl);
       acknowledged = λ d settled k. still_learns s _ refl (λ admin. refl);
       pushed = λ push k. pushed_learns s push;
-      resumed = λ effect grant q query entry value k now.
-          let same = kept_known effect.state.store q query value in
-          let number : (admin : AdminId) → (version_known (followed_by effect (resuming effect.state q query entry value)).state admin).0 ≡ (version_known effect.state admin).0 = λ admin.
-          ap (λ (known : List Version). (unwrap_or (slice_get known admin.0) (record { 0 = 1 })).0) same in
-          record {
-            raises = λ admin. omega (arith, number admin, now.raises admin);
-            forces = λ admin within. omega (arith, number admin, now.forces admin within);
-          };
+      resumed = λ effect grant q query entry value proof k r now. still_followed s effect (resuming effect.state q query entry value proof) (kept_known effect.state.store q query value) now;
+      resumed_denied = λ effect grant q query entry value verdict k d now. still_followed s effect (denying effect.state q entry verdict) refl now;
     })

@@ -12,15 +12,16 @@ use Rattle.tp_types.specs.Table.{is_unset}
 use Rattle.tp_lock.specs.declared.entry.Grant.{Grant}
 use Rattle.tp_model.specs.Ids.{same_txn}
 use Rattle.tp_model.specs.Words.actor
+use Rattle.tp_model.specs.Words.answer
 use Rattle.tp_model.specs.Words.body
 use Rattle.tp_model.specs.Words.log
 use Rattle.tp_model.specs.Words.no
 use Rattle.tp_model.specs.Words.outcome
 use Rattle.tp_model.specs.Words.vote
-use Rattle.tp_model.specs.Words.{Body, DecideRequest, Deed, DoneReply, Letter, Mail, No, Outcome, PrepareRequest, Prepared, PushNotice, Query, QueryRequest, Record, Scenario, ServerId, Settled, TxnId, Verdict, Vote}
+use Rattle.tp_model.specs.Words.{Answer, Body, DecideRequest, Deed, DoneReply, Letter, Mail, No, Outcome, PrepareRequest, Prepared, PushNotice, Query, QueryRequest, Record, Scenario, ServerId, Settled, TxnId, Verdict, Vote}
 use Rattle.tp_runs.proofs.agreement.Logs.{LogPrepared}
 use Rattle.tp_runs.proofs.basics.Ids.{same_txn_is}
-use Rattle.tp_types.proofs.EachLemmas.{each_more, none_if_not_some, placed_emptied, placed_set}
+use Rattle.tp_types.proofs.EachLemmas.{each_append, none_if_not_some, placed_emptied, placed_set}
 use Rattle.tp_runs.proofs.basics.Logs.{get_set, prepared_still, prepared_with, settled_still, settled_with}
 use Rattle.tp_recover.proofs.LogLemmas.{first_none}
 use Rattle.tp_server.proofs.Tables.{written_over}
@@ -32,7 +33,7 @@ use Rattle.tp_model.specs.Deeds.{deed_of}
 use Rattle.tp_types.specs.Each.{Each, EachPlaced}
 use Rattle.tp_server.specs.declared.server.Ballot.{Ballot}
 use Rattle.tp_server.specs.declared.server.Entry.{Entry}
-use Rattle.tp_server.specs.Row.{ack_letter, answers, ballot_of, closes, completes, entry_after, entry_at, followed_by, is_open, learns, no_letter, prepared_record, refused_as, restarted_reply, server_row, settled_as, votes, with_entry, yes_letter}
+use Rattle.tp_server.specs.Row.{ack_letter, answers, answers_with, ballot_of, closes, completes, entry_after, entry_at, followed_by, is_open, learns, no_letter, prepared_record, refused_as, reply_of, server_row, settled_as, votes, with_answer, with_entry, yes_letter}
 use Rattle.tp_server.specs.State.{Server}
 use Rattle.tp_server.specs.Verdicts.{with_wants, verdicts_on}
 
@@ -192,14 +193,14 @@ unvoted_run sc s mail q query entry value k =
     let none : entry.ballot ≡ None = none_if_not_some entry.ballot further.unvoted in
     record { entry_unvoted = none; unvoted = ap (option_and_then cast_in) further.found ∙ ap (option_map (vote_by entry)) none }) k.place
 
-runs_lawful : (V : TxnId → Outcome → Type 0) (M : TxnId → Type 0) (s : Server) (kept : List Record) (q : QueryRequest) (query : Query) (entry : Entry) (deed : Deed) → ServerAgrees s kept
-    → settled_in q.txn kept ≡ None → IsUnvotedRun s q entry → ServerLawful V M s kept (completes s q query entry deed)
-runs_lawful V M s kept q query entry deed h new u =
+runs_lawful : (V : TxnId → Outcome → Type 0) (M : TxnId → Type 0) (s : Server) (kept : List Record) (q : QueryRequest) (query : Query) (entry : Entry) (deed : Deed) (proof : Option Verdict) → ServerAgrees s kept
+    → settled_in q.txn kept ≡ None → IsUnvotedRun s q entry → ServerLawful V M s kept (completes s q query entry deed proof)
+runs_lawful V M s kept q query entry deed proof h new u =
     record {
       agrees = record {
         settled = h.settled;
-        unsettled = placed_set (IsUnsettled kept) s.entries q.txn.0 (entry_after q entry deed) h.unsettled new;
-        prepared = λ txn. run_cast s kept q.txn txn (entry_after q entry deed) h u.unvoted u.entry_unvoted (same_txn q.txn txn) refl;
+        unsettled = placed_set (IsUnsettled kept) s.entries q.txn.0 (entry_after q entry deed proof) h.unsettled new;
+        prepared = λ txn. run_cast s kept q.txn txn (entry_after q entry deed proof) h u.unvoted u.entry_unvoted (same_txn q.txn txn) refl;
       };
       rests = tt;
       replies = (record { from_is = refl; says = tt }, tt);
@@ -219,18 +220,40 @@ entry_lawful V M s kept txn entry letters h new unvoted none replies =
       replies = replies;
     }
 
--- what waited runs, after what was done before
-resumes_lawful : (V : TxnId → Outcome → Type 0) (M : TxnId → Type 0) (sc : Scenario) (s : Server) (kept : List Record) (effect : Effect Server) (grant : Grant) (q : QueryRequest) (query : Query) (entry : Entry) (value : ℤ)
-    → IsResumed sc s.server effect.state grant q query entry value → ServerLawful V M s kept effect → ServerLawful V M s kept (followed_by effect (resuming effect.state q query entry value))
-resumes_lawful V M sc s kept effect grant q query entry value k h =
-    let now = log_with kept effect.reaction.append in
-    let none : option_and_then cast_in (entry_at effect.state q.txn) ≡ None = ap (option_and_then cast_in) k.found ∙ ap (option_map (vote_by entry)) k.unvoted in
-    let ran = runs_lawful V M effect.state now q query (unwaiting entry) (deed_of q.query query value) h.agrees (h.agrees.unsettled q.txn.0 entry k.found) (record { entry_unvoted = k.unvoted; unvoted = none }) in
+-- what a query that does not run is answered is kept and given
+denies_lawful : (V : TxnId → Outcome → Type 0) (M : TxnId → Type 0) (s : Server) (kept : List Record) (q : QueryRequest) (entry : Entry) (given : Answer) → ServerAgrees s kept → settled_in q.txn kept ≡ None → IsUnvotedRun s q entry
+    → ServerLawful V M s kept (answers_with s q entry given)
+denies_lawful V M s kept q entry given h new u = entry_lawful V M s kept q.txn (with_answer q entry given) _ h new u.unvoted u.entry_unvoted (record { from_is = refl; says = tt }, tt)
+
+-- what waited goes on, after what was done before
+goes_on_lawful : (V : TxnId → Outcome → Type 0) (M : TxnId → Type 0) (s : Server) (kept : List Record) (effect : Effect Server) (now : Server) (letters : List Letter) → effect.state.server ≡ s.server → ServerLawful V M s kept effect
+    → ServerLawful V M effect.state (log_with kept effect.reaction.append) (sends now letters) → ServerLawful V M s kept (followed_by effect (sends now letters))
+goes_on_lawful V M s kept effect now letters server_is h further =
+    let log = log_with kept effect.reaction.append in
     record {
-      agrees = record { settled = ran.agrees.settled; unsettled = ran.agrees.unsettled; prepared = ran.agrees.prepared };
+      agrees = record { settled = further.agrees.settled; unsettled = further.agrees.unsettled; prepared = further.agrees.prepared };
       rests = h.rests;
-      replies = each_more (LetterKept s.server now) effect.reaction.letters _ h.replies (record { from_is = ap (λ (at : ServerId). actor.Server at) k.server_is; says = tt });
+      replies = each_append (LetterKept s.server log) effect.reaction.letters letters h.replies (subst (λ (at : ServerId). Each (LetterKept at log) letters) server_is further.replies);
     }
+
+-- the entry of what waited was not voted on
+resumed_unvoted : (sc : Scenario) (at : ServerId) (was : Server) (grant : Grant) (q : QueryRequest) (query : Query) (entry : Entry) (value : ℤ) → IsResumed sc at was grant q query entry value → IsUnvotedRun was q (unwaiting entry)
+resumed_unvoted sc at was grant q query entry value k = record { entry_unvoted = k.unvoted; unvoted = ap (option_and_then cast_in) k.found ∙ ap (option_map (vote_by entry)) k.unvoted }
+
+-- it runs
+resumes_lawful : (V : TxnId → Outcome → Type 0) (M : TxnId → Type 0) (sc : Scenario) (s : Server) (kept : List Record) (effect : Effect Server) (grant : Grant) (q : QueryRequest) (query : Query) (entry : Entry) (value : ℤ)
+    (proof : Option Verdict) → IsResumed sc s.server effect.state grant q query entry value → ServerLawful V M s kept effect → ServerLawful V M s kept (followed_by effect (resuming effect.state q query entry value proof))
+resumes_lawful V M sc s kept effect grant q query entry value proof k h =
+    goes_on_lawful V M s kept effect (resuming effect.state q query entry value proof).state _ k.server_is h
+    (runs_lawful V M effect.state (log_with kept effect.reaction.append) q query (unwaiting entry) (deed_of q.query query value) proof h.agrees (h.agrees.unsettled q.txn.0 entry k.found)
+    (resumed_unvoted sc s.server effect.state grant q query entry value k))
+
+-- or it does not run
+resumes_unrun : (V : TxnId → Outcome → Type 0) (M : TxnId → Type 0) (sc : Scenario) (s : Server) (kept : List Record) (effect : Effect Server) (grant : Grant) (q : QueryRequest) (query : Query) (entry : Entry) (value : ℤ)
+    (given : Answer) → IsResumed sc s.server effect.state grant q query entry value → ServerLawful V M s kept effect → ServerLawful V M s kept (followed_by effect (answers_with effect.state q (unwaiting entry) given))
+resumes_unrun V M sc s kept effect grant q query entry value given k h =
+    goes_on_lawful V M s kept effect (answers_with effect.state q (unwaiting entry) given).state _ k.server_is h
+    (denies_lawful V M effect.state (log_with kept effect.reaction.append) q (unwaiting entry) given h.agrees (h.agrees.unsettled q.txn.0 entry k.found) (resumed_unvoted sc s.server effect.state grant q query entry value k))
 
 -- ---- Prepare
 
@@ -506,15 +529,14 @@ server_row_lawful V M sc s kept mail waits h aborts m named =
     (record {
       relocked = λ effect locks k. record { agrees = record { settled = k.agrees.settled; unsettled = k.agrees.unsettled; prepared = k.agrees.prepared }; rests = k.rests; replies = k.replies };
       ignored = ignores_lawful_in_server V M s kept h;
-      ran = λ q query entry value k.
-          runs_lawful V M s kept q query entry (deed_of q.query query value) h (open_unsettled s kept q.txn h k.unsettled) (unvoted_run sc s mail q query entry value k);
+      ran = λ q query entry value proof k r.
+          runs_lawful V M s kept q query entry (deed_of q.query query value) proof h (open_unsettled s kept q.txn h k.unsettled) (unvoted_run sc s mail q query entry value k);
+      denied = λ q query entry value verdict k d. denies_lawful V M s kept q entry (answer.Denied verdict) h (open_unsettled s kept q.txn h k.unsettled) (unvoted_run sc s mail q query entry value k);
       waited = λ q query entry value k.
           let u = unvoted_run sc s mail q query entry value k in
           entry_lawful V M s kept q.txn (record entry { waiting = Some q }) [] h (open_unsettled s kept q.txn h k.unsettled) u.unvoted u.entry_unvoted tt;
-      died = λ q query entry value other k dying.
-          let u = unvoted_run sc s mail q query entry value k in
-          entry_lawful V M s kept q.txn _ _ h (open_unsettled s kept q.txn h k.unsettled) u.unvoted u.entry_unvoted (record { from_is = refl; says = tt }, tt);
-      restarted = λ q k. answers_lawful V M s kept q (restarted_reply q s.epoch) h;
+      died = λ q query entry value other k dying. denies_lawful V M s kept q entry (answer.Died other) h (open_unsettled s kept q.txn h k.unsettled) (unvoted_run sc s mail q query entry value k);
+      restarted = λ q k. answers_lawful V M s kept q (reply_of q s.epoch answer.Restarted) h;
       answered = λ q entry given k. answers_lawful V M s kept q given h;
       voted = λ p entry staple txn k. votes_lawful V M s kept p (verdicts_on sc (with_wants s p.want) txn staple p.want entry.deeds) entry h (open_unsettled s kept p.txn h k.unsettled) k.found (subst (RequestRests V M) k.said_is m) k.place;
       voted_again = λ p entry cast k. votes_again_lawful V M s kept p entry cast h k.found k.ballot_is;
@@ -525,5 +547,6 @@ server_row_lawful V M sc s kept mail waits h aborts m named =
       settled = λ d k. let rests = subst (RequestRests V M) k.said_is m in settles_lawful V M s kept d h k.unsettled rests.0 rests.1;
       acknowledged = λ d settled k. acknowledges_lawful V M s kept d settled h k.found;
       pushed = λ push k. learns_lawful V M s kept push h;
-      resumed = λ effect grant q query entry value k now. resumes_lawful V M sc s kept effect grant q query entry value k now;
+      resumed = λ effect grant q query entry value proof k r now. resumes_lawful V M sc s kept effect grant q query entry value proof k now;
+      resumed_denied = λ effect grant q query entry value verdict k d now. resumes_unrun V M sc s kept effect grant q query entry value (answer.Denied verdict) k now;
     })

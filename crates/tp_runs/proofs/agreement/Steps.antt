@@ -20,7 +20,7 @@ use Rattle.tp_runs.proofs.agreement.Logs.{DecidedAs, IsAsked, IsPrepared, IsSett
 use Rattle.tp_runs.proofs.agreement.Server.{IsUnsettled, LetterKept, NamesPrepared, RefusalsAbort, RequestRests, ServerAgrees, ServerLawful, cast_in, server_row_lawful}
 use Rattle.tp_runs.proofs.agreement.ServerActs.{SaysOnly, server_acts_agrees, unmoved_agrees}
 use Rattle.tp_runs.proofs.agreement.World.{Agrees, BodyRests, CoordinatorUpAgrees, DecidedServed, LetterRests, MailRests, MoveAgrees, PreparesNamed, VoteRests, state_after_agrees}
-use Rattle.tp_runs.proofs.basics.Homes.{SendFirst, first_row_begins}
+use Rattle.tp_runs.proofs.basics.Homes.{first_row_begins}
 use Rattle.tp_runs.proofs.basics.Ids.{same_txn_from, same_txn_is}
 use Rattle.tp_types.proofs.EachLemmas.{at_made, each_get, placed_none, unset_at}
 use Rattle.tp_runs.proofs.basics.Logs.{listed}
@@ -173,20 +173,20 @@ newest_rests sc actors held _ = tt
 
 -- ---- submissions
 
-pub begun_lawful : (sc : Scenario) (w : State) → IsValid sc → SendFirst sc → IsSound sc w → Agrees sc w → (txn : TxnId) (part : Part Coordinator) (c : Coordinator) → IsTxn sc txn → IsCoordinatorUp w txn part c
+pub begun_lawful : (sc : Scenario) (w : State) → IsValid sc → IsSound sc w → Agrees sc w → (txn : TxnId) (part : Part Coordinator) (c : Coordinator) → IsTxn sc txn → IsCoordinatorUp w txn part c
     → is_part_submitted (Some c) ≡ false → SubmissionLawful sc (IsPrepared w.actors.servers txn) (IsSettled w.actors.servers txn) c part.log (with_age (submit_row sc c) (length w.steps))
-begun_lawful sc w valid first sound h txn part c exists up new =
+begun_lawful sc w valid sound h txn part c exists up new =
     submit_row_lawful sc (IsPrepared w.actors.servers txn) (IsSettled w.actors.servers txn) c part.log (length w.steps) (coordinator_agrees sc w txn part c h up) new
-    (first_row_begins sc c (have_homes sc valid) first (subst (IsTxn sc) (sym (own_txn sc w txn part c sound up.found up.up)) exists))
+    (first_row_begins sc c (have_homes sc valid) (subst (IsTxn sc) (sym (own_txn sc w txn part c sound up.found up.up)) exists))
 
-begun_agrees : (sc : Scenario) (w : State) → IsValid sc → SendFirst sc → IsSound sc w → Agrees sc w → (txn : TxnId) (part : Part Coordinator) (c : Coordinator) → IsTxn sc txn → IsCoordinatorUp w txn part c
+begun_agrees : (sc : Scenario) (w : State) → IsValid sc → IsSound sc w → Agrees sc w → (txn : TxnId) (part : Part Coordinator) (c : Coordinator) → IsTxn sc txn → IsCoordinatorUp w txn part c
     → is_part_submitted (Some c) ≡ false
     → MoveAgrees sc w (coordinator_move w.actors txn (acts_by coordinator_fact (what.Submitted txn ∷ []) part.log (with_age (submit_row sc c) (length w.steps))))
-begun_agrees sc w valid first sound h txn part c exists up new =
+begun_agrees sc w valid sound h txn part c exists up new =
     let own : c.txn ≡ txn = own_txn sc w txn part c sound up.found up.up in
     let effect = with_age (submit_row sc c) (length w.steps) in
     coordinator_acts_agrees sc w txn part (Some effect.state) (what.Submitted txn ∷ []) effect.reaction.append effect.reaction.letters h up.found
-    (submission_acts sc w txn part c effect up.up own new (begun_lawful sc w valid first sound h txn part c exists up new))
+    (submission_acts sc w txn part c effect up.up own new (begun_lawful sc w valid sound h txn part c exists up new))
 
 -- ---- timers
 
@@ -268,8 +268,8 @@ receipt_by_coordinator_in_agreement sc w sound h n mail txn part c sent up =
 
 -- ---- steps
 
-agrees_cases : (sc : Scenario) (w : State) → IsValid sc → SendFirst sc → WaitRightly sc w → IsSound sc w → PreparesNamed w → Agrees sc w → Cases sc w (λ taken move. MoveAgrees sc w move)
-agrees_cases sc w valid first rightly sound named h =
+agrees_cases : (sc : Scenario) (w : State) → IsValid sc → WaitRightly sc w → IsSound sc w → PreparesNamed w → Agrees sc w → Cases sc w (λ taken move. MoveAgrees sc w move)
+agrees_cases sc w valid rightly sound named h =
     record {
       idle = idle_agrees sc w h;
       server_received = λ n mail at part s sent up. receipt_by_server_in_agreement sc w rightly sound named h n mail at part s sent up;
@@ -284,14 +284,14 @@ agrees_cases sc w valid first rightly sound named h =
       pushed = λ admin server exists there. unmoved_agrees sc w [] (master.pushes w.actors.master admin server).reaction.letters h (silent_says sc w) (tt, tt);
       ticked = λ by. offices_agree sc w (office.after_tick by w.actors.authority) w.actors.master (what.Ticked by ∷ []) h (ticked_says sc w by);
       revoked = λ cred exists. offices_agree sc w (office.after_revocation cred w.actors.authority) w.actors.master (what.Revoked cred ∷ []) h (revoked_says sc w cred);
-      begun = λ txn part c exists up new. begun_agrees sc w valid first sound h txn part c exists up new;
+      begun = λ txn part c exists up new. begun_agrees sc w valid sound h txn part c exists up new;
       timed = λ txn part c exists up begun. timed_agrees sc w sound h txn part c up begun;
     }
 
 -- a step that is not refused keeps agreement
-pub agrees_next : (sc : Scenario) (m : Machine) (taken : Step) → IsValid sc → SendFirst sc → IsStepOf sc taken → KeepsUp taken → refusal m.state taken ≡ None → WaitRightly sc m.state → IsSound sc m.state → PreparesNamed m.state → Agrees sc m.state → Agrees sc (machine_after sc m taken).state
-agrees_next sc m taken valid first exists stays allowed rightly sound named h =
-    machine_after_by sc m (λ taken move. MoveAgrees sc m.state move) (Agrees sc) (agrees_cases sc m.state valid first rightly sound named h) h.coordinator_count
+pub agrees_next : (sc : Scenario) (m : Machine) (taken : Step) → IsValid sc → IsStepOf sc taken → KeepsUp taken → refusal m.state taken ≡ None → WaitRightly sc m.state → IsSound sc m.state → PreparesNamed m.state → Agrees sc m.state → Agrees sc (machine_after sc m taken).state
+agrees_next sc m taken valid exists stays allowed rightly sound named h =
+    machine_after_by sc m (λ taken move. MoveAgrees sc m.state move) (Agrees sc) (agrees_cases sc m.state valid rightly sound named h) h.coordinator_count
     (λ taken move t. state_after_agrees sc m.state taken move h t) taken exists stays allowed
 
 -- ---- before the first step

@@ -1,18 +1,18 @@
 -- What holds of the versions of all proofs of a round holds of what it aims at, and of what it wants.
 use Rattle.std.specs.List.{find, fold, list_any}
-use Rattle.std.proofs.Common.{Bool, List, None, Some, [], ap, arith, cond, filter, if◌then◌else◌, inl, inr, map, max, nat_lt, option_map, refl, subst, sym, true, false, ℕ, ⊎_elim, ◌&&◌, ◌==◌, ◌||◌, ◌<◌, ◌∙◌, ◌∷◌, ◌≡◌, ◌≤◌, ◌⊎◌}
+use Rattle.std.proofs.Common.{Bool, List, Option, Some, [], ap, arith, cond, false, filter, if◌then◌else◌, inl, inr, map, max, min, nat_lt, option_map, refl, subst, sym, true, ℕ, ⊎_elim, ◌&&◌, ◌<◌, ◌==◌, ◌||◌, ◌∙◌, ◌∷◌, ◌≡◌, ◌≤◌, ◌⊎◌}
 use Rattle.std.proofs.lemmas.Bool.{and_from, cases_lt, or_left, or_right}
 use Rattle.std.proofs.lemmas.Option.{same_Some}
 use Rattle.tp_types.proofs.ListLemmas.{number_itself}
 use Rattle.tp_model.specs.Ids.{same_admin}
-use Rattle.tp_model.specs.Words.{AdminId, Level, Verdict, Version}
+use Rattle.tp_model.specs.Words.{AdminId, Level, Reading, Verdict, Version}
 use Rattle.tp_round.proofs.AdminLemmas.{same_ids}
 use Rattle.tp_round.specs.Laws.{is_for, want_number, wanted_of}
 use Rattle.tp_round.specs.Judge.{aim_for, aim_of, is_aimed, is_global_at, is_outdated, is_proved_by, newest_in, want_of, wants_of}
-use Rattle.tp_round.specs.Replies.{admins_of, greatest, is_of, with_admin, with_greater, with_its_admin}
+use Rattle.tp_round.specs.Replies.{admins_of, greatest, is_of, with_admin, with_greater, with_its_admin, with_lesser}
 use Rattle.tp_round.specs.declared.round.Target.{Target}
 use Rattle.tp_round.specs.declared.round.Wanted.{Wanted}
-use Rattle.tp_types.proofs.EachLemmas.{by_cond, each_filter, each_map}
+use Rattle.tp_types.proofs.EachLemmas.{by_cond, each_filter, each_map, each_two}
 use Rattle.tp_types.specs.Each.{Each}
 
 -- Q of an administrator and a version
@@ -48,6 +48,17 @@ greatest_from Q admin [] most h (inr coming) = absurd (let none = coming.1 in cc
 greatest_from Q admin (verdict ∷ proofs) most h begun =
     greatest_where Q admin verdict proofs most (is_of admin verdict) (λ e. subst (λ (a : AdminId). Q a verdict.version.0) (same_ids verdict.admin admin e) h.0) (λ n k. greatest_from Q admin proofs n h.1 k) begun
 
+-- ---- the least version
+
+lesser_low : (version most : ℕ) (b : Bool) → 1 ≤ version → 1 ≤ most → 1 ≤ cond b (min most version) most
+lesser_low version most true v m = omega (arith, v, m)
+lesser_low version most false v m = m
+
+-- where each is at least 1, so is the least
+pub least_from : (admin : AdminId) (proofs : List Verdict) (most : ℕ) → 1 ≤ most → Each (λ (verdict : Verdict). 1 ≤ verdict.version.0) proofs → 1 ≤ fold (with_lesser admin) most proofs
+least_from admin [] most low h = low
+least_from admin (verdict ∷ proofs) most low h = least_from admin proofs (with_lesser admin most verdict) (lesser_low verdict.version.0 most (is_of admin verdict) h.0 low) h.1
+
 -- ---- the administrators of proofs
 
 each_with : (P : AdminId → Type 0) (admins : List AdminId) (admin : AdminId) → Each P admins → P admin → Each P (with_admin admins admin)
@@ -70,14 +81,22 @@ each_own (verdict ∷ proofs) whole into = (
 
 -- ---- what is aimed at and wanted
 
--- under view consistency what holds of each proof's version holds of each version that is aimed at
-pub aim_has : (Q : AdminId → ℕ → Type 0) (levels : List Level) (proofs : List Verdict) → ((admin : AdminId) → is_global_at levels admin ≡ false) → Each (VerdictOf Q) proofs → Each (IsOf Q) (aim_of levels None proofs)
-aim_has Q levels proofs view h =
-    each_map (λ (admin : AdminId). list_any (is_of admin) proofs ≡ true) (IsOf Q) (aim_for levels None proofs)
-    (λ admin some.
-    subst (λ (b : Bool). Q admin (cond b (newest_in None admin) (greatest admin proofs))) (sym (view admin)) (greatest_from Q admin proofs 0 h (inr (refl, some))))
-    (admins_of proofs)
-    (each_admin (λ (admin : AdminId). list_any (is_of admin) proofs ≡ true) proofs [] tt (each_own proofs proofs (λ admin e. e)))
+aim_is : (Q : AdminId → ℕ → Type 0) (levels : List Level) (reading : Option Reading) (proofs : List Verdict) (admin : AdminId) (b : Bool) → is_global_at levels admin ≡ b
+    → (is_global_at levels admin ≡ true → Q admin (newest_in reading admin)) → list_any (is_of admin) proofs ≡ true → Each (VerdictOf Q) proofs → Q admin (cond b (newest_in reading admin) (greatest admin proofs))
+aim_is Q levels reading proofs admin true e newest some h = newest e
+aim_is Q levels reading proofs admin false e newest some h = greatest_from Q admin proofs 0 h (inr (refl, some))
+
+-- what holds of each proof's version, and of the newest one that was read of its administrator where its level is global,
+-- holds of each version that is aimed at
+pub aim_has : (Q : AdminId → ℕ → Type 0) (levels : List Level) (reading : Option Reading) (proofs : List Verdict)
+    → Each (λ (verdict : Verdict). is_global_at levels verdict.admin ≡ true → Q verdict.admin (newest_in reading verdict.admin)) proofs → Each (VerdictOf Q) proofs → Each (IsOf Q) (aim_of levels reading proofs)
+aim_has Q levels reading proofs newest h =
+    each_map IsAimable (IsOf Q) (aim_for levels reading proofs) (λ admin k. aim_is Q levels reading proofs admin (is_global_at levels admin) refl k.0 k.1 h) (admins_of proofs)
+    (each_admin IsAimable proofs [] tt (each_two (λ (verdict : Verdict). is_global_at levels verdict.admin ≡ true → Q verdict.admin (newest_in reading verdict.admin)) (λ (verdict : Verdict). list_any (is_of verdict.admin) proofs ≡ true)
+    proofs newest (each_own proofs proofs (λ admin e. e))))
+  where
+    IsAimable : AdminId → Type 0
+    IsAimable admin = (is_global_at levels admin ≡ true → Q admin (newest_in reading admin)) × (list_any (is_of admin) proofs ≡ true)
 
 -- and so of each that is wanted
 pub wants_have : (Q : AdminId → ℕ → Type 0) (aim : List (AdminId × Version)) (targets : List Target) → Each (IsOf Q) aim → Each (λ (named : Wanted). Each (IsOf Q) named.want) (wants_of aim targets)

@@ -1,25 +1,22 @@
 -- What a transaction's levels ask of its rounds: how many there may be, and of which administrators the master is read.
 use Rattle.std.specs.List.{list_any}
 use Rattle.std.specs.Option.{option_map_or}
-use Rattle.std.proofs.Common.{Bool, List, None, Option, Some, [], ap, arith, false, if◌then◌else◌, not, refl, slice_get, subst, suc, sym, true, zero, ℕ, ◌||◌, ◌∷◌, ◌≡◌, ◌≤◌}
+use Rattle.std.proofs.Common.{Bool, List, None, Option, Some, [], ap, arith, false, not, refl, replicate, slice_get, subst, suc, sym, true, zero, ℕ, ◌||◌, ◌∷◌, ◌≡◌, ◌≤◌}
 use Rattle.std.proofs.lemmas.Bool.{and_parts, or_from, or_left, or_right}
 use Rattle.tp_model.specs.Authorisation.{is_item_at, is_own_query, is_query_at}
 use Rattle.tp_model.specs.Causes.{is_item_of, is_own_admin, is_query_of}
 use Rattle.tp_model.specs.Ids.{same_admin, same_server}
 use Rattle.tp_model.specs.Levels.{is_global, is_global_item, is_global_query, level_of, reads_master}
-use Rattle.tp_model.specs.Limits.{view_rounds}
+use Rattle.tp_model.specs.Limits.{admins_limit}
 use Rattle.tp_model.specs.Queries.{item_of}
+use Rattle.tp_model.specs.Words.level
 use Rattle.tp_model.specs.Words.{AdminId, Item, Level, Query, Scenario, ServerId, Transaction}
 use Rattle.tp_round.proofs.AdminLemmas.{same_ids}
+use Rattle.tp_round.proofs.LevelLemmas.{view_for_each}
 use Rattle.tp_round.specs.Judge.{is_global_at}
 use Rattle.tp_machine.specs.Named.{IsAdmin}
 use Rattle.tp_runs.proofs.basics.Phases.{last_spanned, spanned, spanned_get}
 use Rattle.tp_coord.specs.declared.coordinator.Span.{Span}
-
--- how many rounds may meet a newer version: as many as the transaction asks for, where it reads the master; else
--- nothing is met, and the limit is the number of rounds that view consistency takes
-abbrev pub limit_of : Scenario → Transaction → ℕ
-limit_of sc txn = if reads_master sc txn then txn.rounds else view_rounds
 
 -- each administrator of the scenario has in the list the level that the transaction asks for it
 abbrev pub LevelsFit : Scenario → Transaction → List Level → Type 0
@@ -104,3 +101,8 @@ reads_unviewed sc txn reads = by_level (is_global txn.level) refl
     by_level false e =
         let none : reads_master sc txn ≡ false = none_of (is_global_query sc txn) (λ query. no_item (is_global_item txn) (λ item. e) (slice_get sc.items (item_of query).0)) txn.queries in
         absurd (cc)
+
+-- where all administrators have one level, and one of them has the level global, that is the level
+pub global_of_all : (one : Level) (admin : AdminId) → is_global_at (replicate admins_limit one) admin ≡ true → is_global one ≡ true
+global_of_all level.Global admin e = refl
+global_of_all level.View admin e = absurd (let view = view_for_each admin in cc)

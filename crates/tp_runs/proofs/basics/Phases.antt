@@ -8,9 +8,9 @@ use Rattle.std.proofs.lemmas.List.Folds.{list_any_more}
 use Rattle.std.proofs.lemmas.Option.{get_or_from_slice_get, same_Some, slice_get_within}
 use Rattle.tp_model.specs.Agreement.{has_item, has_item_at}
 use Rattle.tp_model.specs.Queries.{is_at_server, item_of, query_at}
-use Rattle.tp_model.specs.Words.{DoneReply, Item, Query, Scenario, ServerId, Transaction, TxnId}
+use Rattle.tp_model.specs.Words.{DoneReply, Item, Query, Scenario, ServerId, Staple, Transaction, TxnId}
 use Rattle.tp_runs.specs.Sound.{query_in}
-use Rattle.tp_coord.specs.Row.{awaits_query, is_plain, server_of}
+use Rattle.tp_coord.specs.Row.{awaits_query, server_of}
 use Rattle.tp_coord.specs.State.{Coordinator}
 use Rattle.tp_coord.specs.declared.coordinator.Phase.TheVariants as phase
 use Rattle.tp_coord.specs.declared.coordinator.Phase.{Phase}
@@ -22,10 +22,11 @@ abbrev pub is_undecided : Phase → Bool
 is_undecided (phase.Ending ended awaited) = false
 is_undecided _ = true
 
--- the answer to a query is awaited
-abbrev pub is_querying : Phase → Bool
-is_querying (phase.Querying number staple) = true
-is_querying _ = false
+-- the transaction runs: it was submitted, and is not decided
+abbrev pub is_running : Phase → Bool
+is_running phase.Idle = false
+is_running (phase.Ending ended awaited) = false
+is_running _ = true
 
 -- a round at commit is over all queries
 abbrev pub is_at_commit : Span → Bool
@@ -138,31 +139,18 @@ ceiling_in count (phase.Ending ended awaited) = until_round count 17 3
 
 -- ---- laws
 
--- the query that is awaited is the one that the answer says
-pub awaits_is : (c : Coordinator) (awaited : Phase) (done : DoneReply) → awaits_query c awaited done ≡ true → is_plain awaited ≡ true → awaited ≡ phase.Querying done.query None
-awaits_is c (phase.Querying number None) done e plain = ap (λ (n : ℕ). phase.Querying n None) (sym (eqb-true done.query number (and_parts (done.turn == c.turn) (done.query == number) e).1))
-awaits_is c (phase.Querying number (Some staple)) done e plain = absurd (cc)
-awaits_is c phase.Idle done e plain = absurd (cc)
-awaits_is c (phase.Stapling number) done e plain = absurd (cc)
-awaits_is c (phase.Probing number) done e plain = absurd (cc)
-awaits_is c (phase.Asking over round) done e plain = absurd (cc)
-awaits_is c (phase.Checking over round staple) done e plain = absurd (cc)
-awaits_is c (phase.Reading over round) done e plain = absurd (cc)
-awaits_is c (phase.Voting awaited) done e plain = absurd (cc)
-awaits_is c phase.VoteProbing done e plain = absurd (cc)
-awaits_is c (phase.Ending ended servers) done e plain = absurd (cc)
-
-pub querying_is : (c : Coordinator) (awaited : Phase) (done : DoneReply) → awaits_query c awaited done ≡ true → is_querying awaited ≡ true
-querying_is c (phase.Querying number staple) done e = refl
-querying_is c phase.Idle done e = absurd (cc)
-querying_is c (phase.Stapling number) done e = absurd (cc)
-querying_is c (phase.Probing number) done e = absurd (cc)
-querying_is c (phase.Asking over round) done e = absurd (cc)
-querying_is c (phase.Checking over round staple) done e = absurd (cc)
-querying_is c (phase.Reading over round) done e = absurd (cc)
-querying_is c (phase.Voting awaited) done e = absurd (cc)
-querying_is c phase.VoteProbing done e = absurd (cc)
-querying_is c (phase.Ending ended servers) done e = absurd (cc)
+-- the query that is awaited is the one that the answer says, and was asked with some staple or none
+pub awaits_is : (c : Coordinator) (awaited : Phase) (done : DoneReply) → awaits_query c awaited done ≡ true → (staple : Option Staple) × (awaited ≡ phase.Querying done.query staple)
+awaits_is c (phase.Querying number staple) done e = (staple, ap (λ (n : ℕ). phase.Querying n staple) (sym (eqb-true done.query number (and_parts (done.turn == c.turn) (done.query == number) e).1)))
+awaits_is c phase.Idle done e = absurd (cc)
+awaits_is c (phase.Stapling number) done e = absurd (cc)
+awaits_is c (phase.Probing number) done e = absurd (cc)
+awaits_is c (phase.Asking over round) done e = absurd (cc)
+awaits_is c (phase.Checking over round staple) done e = absurd (cc)
+awaits_is c (phase.Reading over round) done e = absurd (cc)
+awaits_is c (phase.Voting awaited) done e = absurd (cc)
+awaits_is c phase.VoteProbing done e = absurd (cc)
+awaits_is c (phase.Ending ended servers) done e = absurd (cc)
 
 any_declared : (sc : Scenario) (at : ServerId) (found : Option Transaction)
     → list_any (is_at_server sc at.0) (option_map_or (λ (declared : Transaction). declared.queries) found []) ≡ option_map_or (has_item sc at) found false

@@ -1,14 +1,13 @@
 -- The servers of a round: who is awaited, and that a reply, a further round and the judgement leave the servers as they are.
 use Rattle.std.specs.List.{list_any, range_with_len}
-use Rattle.std.proofs.Common.{Bool, List, None, Some, [], ap, cond, false, filter, flat_map, is_none, map, refl, subst, sym, true, ℕ, ◌&&◌, ◌==◌, ◌||◌, ◌∷◌, ◌∙◌, ◌≡◌}
+use Rattle.std.proofs.Common.{Bool, List, Option, Some, [], ap, cond, false, filter, flat_map, is_none, map, refl, subst, sym, true, ℕ, ◌&&◌, ◌==◌, ◌||◌, ◌∙◌, ◌∷◌, ◌≡◌}
 use Rattle.tp_types.proofs.ListLemmas.{number_itself}
 use Rattle.std.proofs.lemmas.Bool.{and_parts, or_left, or_parts, or_right}
-use Rattle.tp_model.specs.Words.{AdminId, ServerId, Verdict, Version}
+use Rattle.tp_model.specs.Words.{AdminId, Reading, ServerId, Verdict, Version}
 use Rattle.tp_model.specs.Ids.{same_server}
-use Rattle.tp_round.specs.Judge.{after, after_judgement, aim_in, awaits, final_answer, is_missing, is_outdated, judge, met_in, mets_in, new_target, next_round, next_target, wants_of, with_reply}
-use Rattle.tp_round.specs.Replies.{by_query, is_at_query, least_false, proofs_in}
+use Rattle.tp_round.specs.Judge.{after, after_judgement, aim_in, awaits, is_missing, is_outdated, judge, met_in, mets_in, new_target, next_round, next_target, with_reply}
+use Rattle.tp_round.specs.Replies.{by_query, is_at_query}
 use Rattle.tp_round.specs.declared.round.Judged.TheVariants as judged
-use Rattle.tp_round.specs.declared.round.Judged.{Judged}
 use Rattle.tp_round.specs.declared.round.Round.{Round}
 use Rattle.tp_round.specs.declared.round.Target.{Target}
 use Rattle.tp_round.specs.declared.round.Wanted.{Wanted}
@@ -98,25 +97,12 @@ all_of (first ∷ others) whole into =
 pub all_in : (servers : List ServerId) → Each (λ (at : ServerId). is_in servers at ≡ true) servers
 all_in servers = all_of servers servers (λ at e. e)
 
--- ---- judged rounds
-
-missing_waits : (round : Round) → list_any is_missing round.targets ≡ true → judge round None ≡ judged.Waiting
-missing_waits round e =
-    ap (λ (b : Bool). cond b judged.Waiting (cond (list_any (is_outdated (aim_in round None)) round.targets) (judged.Update (wants_of (aim_in round None) round.targets)) (final_answer (least_false (proofs_in round.targets)))))
-    (or_left (list_any is_missing round.targets) (round.reads && true) e)
-
-whole_by : (round : Round) (answer : Judged) (b : Bool) → list_any is_missing round.targets ≡ b → judge round None ≡ answer → (answer ≡ judged.Waiting → ⊥) → list_any is_missing round.targets ≡ false
-whole_by round answer false k e other = k
-whole_by round answer true k e other = absurd (other (sym e ∙ missing_waits round k))
-
--- an answer other than to wait comes where no reply is missing
-pub judged_whole : (round : Round) (answer : Judged) → judge round None ≡ answer → (answer ≡ judged.Waiting → ⊥) → list_any is_missing round.targets ≡ false
-judged_whole round answer e other = whole_by round answer (list_any is_missing round.targets) refl e other
+-- ---- an update
 
 -- after an update the next round has begun
-pub updated_is : (round : Round) (named : List Wanted) → judge round None ≡ judged.Update named
-    → after_judgement round None ≡ next_round round (aim_in round None) named (mets_in round (met_in round None))
-updated_is round named e = ap (after round (aim_in round None) (met_in round None)) e
+pub updated_is : (round : Round) (reading : Option Reading) (named : List Wanted) → judge round reading ≡ judged.Update named
+    → after_judgement round reading ≡ next_round round (aim_in round reading) named (mets_in round (met_in round reading))
+updated_is round reading named e = ap (after round (aim_in round reading) (met_in round reading)) e
 
 -- ---- proofs by query
 

@@ -303,6 +303,10 @@ first_move turn low = omega (arith, low)
 pub next_move : (number next turn : ℕ) → 1 ≤ number → next ≡ number + 1 → turn ≤ before_query number + 2 → turn + 1 ≤ before_query next + 2
 next_move number next turn first one_more low = omega (arith, first, one_more, low)
 
+-- so is the authority before it
+pub stapling_move : (number next turn : ℕ) → 1 ≤ number → next ≡ number + 1 → turn ≤ before_query number + 2 → turn + 1 ≤ before_query next + 1
+stapling_move number next turn first one_more low = omega (arith, first, one_more, low)
+
 -- so is the first round, after any query
 pub round_move : (count number turn : ℕ) → 1 ≤ number → number ≤ count → turn ≤ before_query number + 2 → turn + 1 ≤ until_round count 1 1
 round_move count number turn first last low = omega (arith, first, last, low)
@@ -317,7 +321,7 @@ pub low_round : (count number asked turn : ℕ) → count ≤ 16 → number ≤ 
 low_round count number asked turn few most of_three low = omega (arith, few, most, of_three, low)
 
 -- so is the next round
-pub further_move : (count number turn : ℕ) → 1 ≤ number → turn ≤ until_round count number 2 → turn + 1 ≤ until_round count (number + 1) 1
+pub further_move : (count number turn : ℕ) → 1 ≤ number → turn ≤ until_round count number 3 → turn + 1 ≤ until_round count (number + 1) 1
 further_move count number turn first low = omega (arith, first, low)
 
 -- or it ends at a query

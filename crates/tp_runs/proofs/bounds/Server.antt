@@ -7,21 +7,22 @@ use Rattle.std.proofs.lemmas.Option.{same_Some}
 use Rattle.tp_types.specs.Effect.{Effect, sends}
 use Rattle.tp_lock.specs.declared.entry.Grant.{Grant}
 use Rattle.tp_model.specs.SerialRun.{number_at}
+use Rattle.tp_model.specs.Words.answer
 use Rattle.tp_model.specs.Words.query
-use Rattle.tp_model.specs.Words.{DecideRequest, DoneReply, ItemId, Letter, Mail, Query, QueryRequest, Scenario, Settled, TxnId}
+use Rattle.tp_model.specs.Words.{Answer, DecideRequest, DoneReply, ItemId, Letter, Mail, Query, QueryRequest, Scenario, Settled, TxnId, Verdict}
 use Rattle.tp_types.proofs.EachLemmas.{each_append, each_found, each_get, each_more, placed_emptied, placed_set}
 use Rattle.tp_runs.proofs.basics.Stores.{EachWrite, ended_each, kept_each, learnt_each}
 use Rattle.tp_runs.proofs.bounds.Numbers.{bounded_item, bounded_later}
 use Rattle.tp_runs.proofs.basics.Found.{of_some}
 use Rattle.tp_recover.specs.Log.{values_by}
-use Rattle.tp_runs.proofs.serial_data.Rows.{IsRunAt, RequestClear, ServerKeeps, ServerReads, deeds_in, keeps_cases, resumed_at, resumes_keep, run_at, values_with}
+use Rattle.tp_runs.proofs.serial_data.Rows.{IsRunAt, RequestClear, ServerKeeps, ServerReads, deeds_in, denies_keep, keeps_cases, resumed_at, resumes_keep, run_at, values_with}
 use Rattle.tp_runs.proofs.deeds.Tentative.{last_upto}
-use Rattle.tp_server.proofs.Rows.{AreRightWaits, IsAsking, IsFirstHere, IsFurther, IsOrder, IsResumed, resuming, server_by, unwaiting}
-use Rattle.tp_runs.specs.Bounded.{IsAtMost, IsBounded, IsBoundedBody, IsBoundedDeed, IsBoundedDone, IsBoundedEntry, IsBoundedNo, IsBoundedQuery, IsBoundedRecord, IsBoundedSettled, IsBoundedWrite}
+use Rattle.tp_server.proofs.Rows.{AreRightWaits, IsAsking, IsFirstHere, IsFurther, IsOrder, IsResumed, denying, resuming, server_by, unwaiting}
+use Rattle.tp_runs.specs.Bounded.{IsAtMost, IsBounded, IsBoundedAnswer, IsBoundedBody, IsBoundedDeed, IsBoundedDone, IsBoundedEntry, IsBoundedNo, IsBoundedQuery, IsBoundedRecord, IsBoundedSettled, IsBoundedWrite}
 use Rattle.tp_model.specs.Deeds.{deed_of}
 use Rattle.tp_types.specs.Each.{Each, EachPlaced}
 use Rattle.tp_server.specs.declared.server.Entry.{Entry}
-use Rattle.tp_server.specs.Row.{closes, completes, died_reply, done_reply, entry_after, entry_at, followed_by, server_row, value_of_run, with_entry}
+use Rattle.tp_server.specs.Row.{answers_with, closes, completes, entry_after, entry_at, followed_by, ran_as, reply_of, server_row, value_of_run, with_answer, with_entry}
 use Rattle.tp_server.specs.State.{Server}
 use Rattle.tp_store.proofs.OutsideLemmas.{first_is_least}
 use Rattle.tp_store.specs.Contents.{Contents}
@@ -90,18 +91,18 @@ entry_bounded sc s mail q query entry value h k =
     ⊎_elim (λ (first : IsFirstHere s mail.sent q entry). subst IsBoundedEntry (sym first.entry_is) (record { answers = tt; waiting = tt; deeds = tt }))
     (λ (further : IsFurther s q entry). h.kept.entries q.txn.0 entry further.found) k.place
 
-runs_bounded : (sc : Scenario) (s : Server) (q : QueryRequest) (query : Query) (entry : Entry) (value : ℤ) → ServerBefore s → IsBoundedQuery q → IsRunAt sc s q entry → value_of_run s q query ≡ Some value
-    → IsBoundedEntry entry → ServerBounds (completes s q query entry (deed_of q.query query value))
-runs_bounded sc s q query entry value h asked at is old =
+runs_bounded : (sc : Scenario) (s : Server) (q : QueryRequest) (query : Query) (entry : Entry) (value : ℤ) (proof : Option Verdict) → ServerBefore s → IsBoundedQuery q → IsRunAt sc s q entry → value_of_run s q query ≡ Some value
+    → IsBoundedEntry entry → ServerBounds (completes s q query entry (deed_of q.query query value) proof)
+runs_bounded sc s q query entry value proof h asked at is old =
     let deed = deed_of q.query query value in
     let new : IsBounded q.query value = run_bounded sc s q query entry value h asked at is in
     record {
       kept = record {
         writes = kept_each (λ (txn : TxnId) (write : TentativeWrite). IsBoundedWrite write) s.store q query value h.kept.writes new;
         settled = h.kept.settled;
-        entries = placed_set (λ (n : ℕ) (found : Entry). IsBoundedEntry found) s.entries q.txn.0 (entry_after q entry deed) h.kept.entries
+        entries = placed_set (λ (n : ℕ) (found : Entry). IsBoundedEntry found) s.entries q.txn.0 (entry_after q entry deed proof) h.kept.entries
             (record {
-              answers = each_more IsBoundedDone entry.answers (done_reply q entry.epoch deed) old.answers new;
+              answers = each_more IsBoundedDone entry.answers (reply_of q entry.epoch (ran_as deed proof)) old.answers new;
               waiting = old.waiting;
               deeds = each_more IsBoundedDeed entry.deeds deed old.deeds new;
             });
@@ -110,7 +111,7 @@ runs_bounded sc s q query entry value h asked at is old =
       letters = (new, tt);
     }
 
--- the entry at which a query asks waits, or answers that an older transaction stands in the way
+-- a query waits at its entry, or is answered there
 entry_bounds : (s : Server) (txn : TxnId) (entry : Entry) (letters : List Letter) → ServerBefore s → IsBoundedEntry entry → Each IsBoundedLetter letters → ServerBounds (sends (with_entry s txn (Some entry)) letters)
 entry_bounds s txn entry letters h new said =
     record {
@@ -118,6 +119,12 @@ entry_bounds s txn entry letters h new said =
       forces = tt;
       letters = said;
     }
+
+-- a query that is answered without a value
+answers_bounded : (s : Server) (q : QueryRequest) (entry : Entry) (said : Answer) → ServerBefore s → IsBoundedEntry entry → IsBoundedAnswer q.query said → ServerBounds (answers_with s q entry said)
+answers_bounded s q entry said h old new =
+    entry_bounds s q.txn (with_answer q entry said) _ h
+    (record { answers = each_more IsBoundedDone entry.answers (reply_of q entry.epoch said) old.answers new; waiting = old.waiting; deeds = old.deeds }) (new, tt)
 
 -- ---- the end of a transaction
 
@@ -162,19 +169,28 @@ beside : (sc : Scenario) (M : TxnId → Type 0) (s : Server) (effect : Effect Se
 beside sc M s effect keeps values row = record { keeps = keeps; values = subst (Each (IsAtMost (10 ^ 15))) (sym keeps.values) values; row = row }
 
 -- what waited runs, after what was done before
-resumes_bounded : (sc : Scenario) (M : TxnId → Type 0) (s : Server) (effect : Effect Server) (grant : Grant) (q : QueryRequest) (query : Query) (entry : Entry) (value : ℤ) → IsResumed sc s.server effect.state grant q query entry value
-    → BoundsBeside sc M s effect → BoundsBeside sc M s (followed_by effect (resuming effect.state q query entry value))
-resumes_bounded sc M s effect grant q query entry value k h =
-    let keeps = resumes_keep sc M s effect grant q query entry value k h.keeps in
+resumes_bounded : (sc : Scenario) (M : TxnId → Type 0) (s : Server) (effect : Effect Server) (grant : Grant) (q : QueryRequest) (query : Query) (entry : Entry) (value : ℤ) (proof : Option Verdict) → IsResumed sc s.server effect.state grant q query entry value
+    → BoundsBeside sc M s effect → BoundsBeside sc M s (followed_by effect (resuming effect.state q query entry value proof))
+resumes_bounded sc M s effect grant q query entry value proof k h =
+    let keeps = resumes_keep sc M s effect grant q query entry value proof k h.keeps in
     let old : IsBoundedEntry entry = h.row.kept.entries q.txn.0 entry k.found in
     let asked : IsBoundedQuery q = subst (λ (w : Option QueryRequest). IfSome w IsBoundedQuery) k.waiting_is old.waiting in
-    let ran = runs_bounded sc effect.state q query (unwaiting entry) value (record { values = h.values; kept = h.row.kept }) asked (resumed_at sc s.server effect.state grant q query entry value h.keeps.reads k) k.value_is
+    let ran = runs_bounded sc effect.state q query (unwaiting entry) value proof (record { values = h.values; kept = h.row.kept }) asked (resumed_at sc s.server effect.state grant q query entry value h.keeps.reads k) k.value_is
     (record { answers = old.answers; waiting = tt; deeds = old.deeds }) in
     record {
       keeps = keeps;
       values = subst (Each (IsAtMost (10 ^ 15))) (h.keeps.values ∙ sym keeps.values) h.values;
       row = record { kept = ran.kept; forces = h.row.forces; letters = each_append IsBoundedLetter effect.reaction.letters _ h.row.letters ran.letters };
     }
+
+-- or its proof is false
+denies_bounded : (sc : Scenario) (M : TxnId → Type 0) (s : Server) (effect : Effect Server) (grant : Grant) (q : QueryRequest) (query : Query) (entry : Entry) (value : ℤ) (verdict : Verdict) → IsResumed sc s.server effect.state grant q query entry value
+    → BoundsBeside sc M s effect → BoundsBeside sc M s (followed_by effect (denying effect.state q entry verdict))
+denies_bounded sc M s effect grant q query entry value verdict k h =
+    let keeps = denies_keep sc M s effect grant q query entry value verdict k h.keeps in
+    let old : IsBoundedEntry entry = h.row.kept.entries q.txn.0 entry k.found in
+    let row = answers_bounded effect.state q (unwaiting entry) (answer.Denied verdict) (record { values = h.values; kept = h.row.kept }) (record { answers = old.answers; waiting = tt; deeds = old.deeds }) tt in
+    record { keeps = keeps; values = h.values; row = record { kept = row.kept; forces = h.row.forces; letters = each_append IsBoundedLetter effect.reaction.letters _ h.row.letters row.letters } }
 
 -- every row of a server on receipt of a mail
 pub server_row_bounds : (sc : Scenario) (M : TxnId → Type 0) (s : Server) (mail : Mail) → AreRightWaits sc s → ServerBefore s → IsBoundedBody mail.letter.body → ServerReads sc s → RequestClear sc M s mail.letter.body → OrdersBounded s mail
@@ -190,17 +206,17 @@ server_row_bounds sc M s mail waits h said reads clear orders =
             row = record { kept = record { writes = k.row.kept.writes; settled = k.row.kept.settled; entries = k.row.kept.entries }; forces = k.row.forces; letters = k.row.letters };
           };
       ignored = beside sc M s _ keeps.ignored h.values (stays_bounded s [] h tt);
-      ran = λ q query entry value k.
-          beside sc M s _ (keeps.ran q query entry value k) h.values
-          (runs_bounded sc s q query entry value h (subst IsBoundedBody k.said_is said) (run_at sc s mail q query entry value reads (subst (RequestClear sc M s) k.said_is clear) k) k.value_is (entry_bounded sc s mail q query entry value h k));
+      ran = λ q query entry value proof k r.
+          beside sc M s _ (keeps.ran q query entry value proof k r) h.values
+          (runs_bounded sc s q query entry value proof h (subst IsBoundedBody k.said_is said) (run_at sc s mail q query entry value reads (subst (RequestClear sc M s) k.said_is clear) k) k.value_is (entry_bounded sc s mail q query entry value h k));
+      denied = λ q query entry value verdict k d.
+          beside sc M s _ (keeps.denied q query entry value verdict k d) h.values (answers_bounded s q entry (answer.Denied verdict) h (entry_bounded sc s mail q query entry value h k) tt);
       waited = λ q query entry value k.
           let old = entry_bounded sc s mail q query entry value h k in
           beside sc M s _ (keeps.waited q query entry value k) h.values
           (entry_bounds s q.txn (record entry { waiting = Some q }) [] h (record { answers = old.answers; waiting = subst IsBoundedBody k.said_is said; deeds = old.deeds }) tt);
       died = λ q query entry value other k dying.
-          let old = entry_bounded sc s mail q query entry value h k in
-          beside sc M s _ (keeps.died q query entry value other k dying) h.values
-          (entry_bounds s q.txn _ _ h (record { answers = each_more IsBoundedDone entry.answers (died_reply q entry.epoch other) old.answers tt; waiting = old.waiting; deeds = old.deeds }) (tt, tt));
+          beside sc M s _ (keeps.died q query entry value other k dying) h.values (answers_bounded s q entry (answer.Died other) h (entry_bounded sc s mail q query entry value h k) tt);
       restarted = λ q k. beside sc M s _ (keeps.restarted q k) h.values (stays_bounded s _ h (tt, tt));
       answered = λ q entry given k.
           beside sc M s _ (keeps.answered q entry given k) h.values
@@ -228,5 +244,6 @@ server_row_bounds sc M s mail waits h said reads clear orders =
       acknowledged = λ d settled k. beside sc M s _ (keeps.acknowledged d settled k) h.values (stays_bounded s _ h (tt, tt));
       pushed = λ push k.
           beside sc M s _ (keeps.pushed push k) h.values (record { kept = record { writes = h.kept.writes; settled = h.kept.settled; entries = h.kept.entries }; forces = tt; letters = tt });
-      resumed = λ effect grant q query entry value k now. resumes_bounded sc M s effect grant q query entry value k now;
+      resumed = λ effect grant q query entry value proof k r now. resumes_bounded sc M s effect grant q query entry value proof k now;
+      resumed_denied = λ effect grant q query entry value verdict k d now. denies_bounded sc M s effect grant q query entry value verdict k now;
     })).row

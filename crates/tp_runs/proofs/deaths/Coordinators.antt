@@ -14,7 +14,7 @@ use Rattle.tp_coord.specs.Row.{awaited_in, coordinator_row, next_turn, prepare_l
 use Rattle.tp_coord.specs.State.{Coordinator}
 use Rattle.tp_runs.proofs.epochs.Kept.{from_server}
 use Rattle.tp_runs.proofs.deaths.Fit.{Adds, AnswerSent, BodyDies, Death, LetterDies, WhatDies, body_dies_still, death_shown}
-use Rattle.tp_coord.proofs.Rows.{ByLoss, ByOlder, ByProof, ByRefusal, ByRestart, IsEnded, coordinator_by, submit_by, timer_by}
+use Rattle.tp_coord.proofs.Rows.{ByDenial, ByLoss, ByOlder, ByProof, ByRefusal, ByRestart, ByRounds, IsEnded, coordinator_by, submit_by, timer_by}
 use Rattle.tp_machine.specs.Machine.{with_age}
 use Rattle.tp_types.specs.Each.{Each}
 
@@ -53,13 +53,16 @@ coordinator_row_dies sc old place c mail less h own =
     coordinator_by sc c mail (ActDies sc old place)
     (record {
       ignored = record { forces = λ facts a. tt; sends = tt };
+      stapled = λ tell query home k at. record { forces = λ facts a. tt; sends = (tt, tt) };
       sends_query = λ query now next passed moves home. record { forces = λ facts a. tt; sends = (tt, tt) };
+      asks_staple = λ query now passed moves. record { forces = λ facts a. tt; sends = (tt, tt) };
       commit_rounds = λ query now passed moves. record { forces = λ facts a. tt; sends = (tt, tt) };
       told = λ tell round k. record { forces = λ facts a. tt; sends = all_none sc old place (prepare_letter c (next_turn c) round (staple_of tell mail.sent)) (λ at. tt) (awaited_in round) };
       counted = λ reply round staple server verdicts y. record { forces = λ facts a. tt; sends = tt };
+      probed = λ reply round staple server verdicts y whole reads. record { forces = λ facts a. tt; sends = (tt, tt) };
       decides = λ instances rounds passed. record { forces = λ facts a. tt; sends = orders_none sc old place c outcome.Commit c.servers };
       aborted = λ why ended. record { forces = cause_dies why ended; sends = orders_none sc old place c outcome.Abort c.servers };
-      updated = λ reply round staple server verdicts named y e. record { forces = λ facts a. tt; sends = (tt, tt) };
+      updated = λ round staple reading named j e. record { forces = λ facts a. tt; sends = (tt, tt) };
       acknowledged = λ ack ended awaited server k. record { forces = λ facts a. tt; sends = tt };
       inquired = λ inquiry ended awaited server k. record { forces = λ facts a. tt; sends = orders_none sc old place c ended (server ∷ []) };
     })
@@ -73,7 +76,9 @@ coordinator_row_dies sc old place c mail less h own =
         let same : done.txn ≡ c.txn = own done k.said_is in
         death_shown sc facts place server c.txn other done.query mail.sent declared (subst (λ (t : TxnId). Death sc facts server t other done.query) same told.0)
         (subst (λ (t : TxnId). was_submitted t mail.sent facts ≡ true) same told.1) less there
-    cause_dies _ (ByProof reply round staple server verdicts verdict y e) facts a = tt
+    cause_dies _ (ByDenial done server asked verdict k) facts a = tt
+    cause_dies _ (ByProof round staple reading verdict j e) facts a = tt
+    cause_dies _ (ByRounds reply round mets k e) facts a = tt
     cause_dies _ (ByRefusal reply round staple server number value k) facts a = tt
     cause_dies _ (ByRestart done server asked k) facts a = tt
     cause_dies _ (ByLoss reply round staple server k) facts a = tt
@@ -84,7 +89,8 @@ submit_row_dies sc old place c =
     submit_by sc c (λ (effect : Effect Coordinator). ActDies sc old place (with_age effect place))
     (record {
       ignored = record { forces = λ facts a. tt; sends = tt };
-      sent = λ server home. record { forces = λ facts a. tt; sends = (tt, tt) };
+      sent = λ server begins home. record { forces = λ facts a. tt; sends = (tt, tt) };
+      asked = λ begins. record { forces = λ facts a. tt; sends = (tt, tt) };
     })
 
 -- a request that is sent again answers no query
@@ -93,8 +99,10 @@ repeats_none sc facts place c =
     timer_by sc c (Each (LetterDies sc facts place))
     (record {
       silent = tt;
-      queried = λ number server querying home. (tt, tt);
+      stapled = λ number stapling. (tt, tt);
+      queried = λ number staple server querying home. (tt, tt);
       asked = λ over round asking. (tt, tt);
       prepared = λ round staple checking. all_none sc facts place (prepare_letter c c.turn round staple) (λ at. tt) (awaited_in round);
+      read = λ over round reading. (tt, tt);
       ordered = λ ended awaited ending. orders_none sc facts place c ended awaited;
     })

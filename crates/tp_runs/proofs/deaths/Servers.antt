@@ -1,5 +1,5 @@
 -- Deaths for an older transaction, the server's rows: the owner of each lock has an entry of its age, and an answer Died names one in the way.
-use Rattle.std.proofs.Common.{Bool, List, None, Option, Some, [], ap, arith, false, length, refl, slice_get, slice_set, subst, sym, true, ℕ, ℤ, ⊎_elim, ◌++◌, ◌<◌, ◌==◌, ◌∙◌, ◌∷◌, ◌≡◌}
+use Rattle.std.proofs.Common.{Bool, List, None, Option, Some, [], ap, arith, false, length, refl, slice_get, slice_set, subst, sym, true, ℕ, ℤ, ⊎_elim, ◌<◌, ◌==◌, ◌∙◌, ◌≡◌}
 use Rattle.std.proofs.lemmas.Bool.{eqb-true}
 use Rattle.std.proofs.lemmas.List.{length-set}
 use Rattle.std.proofs.lemmas.Option.{same_Some}
@@ -14,20 +14,22 @@ use Rattle.tp_lock.specs.declared.entry.LockEntry.{LockEntry}
 use Rattle.tp_model.specs.Authorisation.{action_of}
 use Rattle.tp_model.specs.Deeds.{deed_of}
 use Rattle.tp_model.specs.Queries.{item_of}
+use Rattle.tp_model.specs.Words.answer
 use Rattle.tp_model.specs.Words.body
-use Rattle.tp_model.specs.Words.{DoneReply, Fact, Letter, Mail, Query, QueryRequest, Scenario, ServerId, Settled, TxnId}
+use Rattle.tp_model.specs.Words.{Answer, DoneReply, Fact, Letter, Mail, Query, QueryRequest, Scenario, ServerId, Settled, TxnId, Verdict}
 use Rattle.tp_runs.proofs.basics.Facts.{ArePast}
 use Rattle.tp_types.proofs.EachLemmas.{each_found, each_more, placed_emptied, placed_set, set_here}
 use Rattle.tp_runs.proofs.basics.Locks.{EachLock, all_added, locks_as, released_locks, requested_locks}
 use Rattle.tp_runs.proofs.deaths.Fit.{Death, DoneDies, LetterDies, LockFits, done_sent}
 use Rattle.tp_server.proofs.Tables.{placed_within}
 use Rattle.tp_runs.proofs.basics.Folds.{set_elsewhere}
-use Rattle.tp_server.proofs.Rows.{AreRightWaits, IsAsking, IsFirstHere, IsFurther, IsResumed, resuming, server_by_locks, unwaiting, with_locks}
+use Rattle.tp_server.proofs.Rows.{AreRightWaits, IsAsking, IsFirstHere, IsFurther, IsResumed, denying, resuming, server_by_locks, unwaiting, with_locks}
 use Rattle.tp_types.specs.Each.{Each, EachPlaced}
 use Rattle.tp_server.specs.declared.server.Entry.{Entry}
-use Rattle.tp_server.specs.Row.{ack_letter, after_asking, ballot_of, closes, died_reply, entry_after, entry_at, followed_by, lock_answer, no_letter, prepared_record, refused_as, server_row, settled_as}
+use Rattle.tp_server.specs.Row.{ack_letter, after_asking, answers_with, ballot_of, closes, entry_after, entry_at, followed_by, lock_answer, no_letter, prepared_record, refused_as, reply_of, server_row, settled_as, with_answer}
 use Rattle.tp_server.specs.State.{Server}
 use Rattle.tp_server.specs.Verdicts.{with_wants, verdicts_on}
+use Rattle.tp_store.specs.Contents.{Contents}
 
 -- ---- what is kept
 
@@ -122,23 +124,59 @@ closes_dies sc facts place s order letter h said =
       letters = (said, tt);
     }
 
--- what waited runs, after what was done before
-resumes_dies : (sc : Scenario) (facts : List Fact) (place : ℕ) (s : Server) (effect : Effect Server) (grant : Grant) (q : QueryRequest) (query : Query) (entry : Entry) (value : ℤ) → IsResumed sc s.server effect.state grant q query entry value
-    → length s.entries ≡ length sc.txns → RowDies sc facts place s effect → RowDies sc facts place s (with_locks (followed_by effect (resuming effect.state q query entry value)) (without_grant effect.state.locks))
-resumes_dies sc facts place s effect grant q query entry value k places h =
-    let was = effect.state in
-    let new = entry_after q (unwaiting entry) (deed_of q.query query value) in
-    let exists = k.exists in
-    let within : q.txn.0 < length was.entries = let same = h.places in omega (arith, exists, same, places) in
-    let entries = slice_set was.entries q.txn.0 (Some new) in
+-- a query that asks has this answer, which ends its transaction
+answers_dies : (sc : Scenario) (facts : List Fact) (place : ℕ) (s : Server) (mail : Mail) (q : QueryRequest) (query : Query) (entry : Entry) (value : ℤ) (by : Asked) (given : Answer) → ArePast place facts → lock_answer s q query entry ≡ by
+    → IsAsking sc s mail q query entry value → q.txn.0 < length s.entries → ServerDies sc facts s.server s → DoneDies sc facts s.server (reply_of q entry.epoch given) → RowDies sc facts place s (answers_with (after_asking s q query entry) q entry given)
+answers_dies sc facts place s mail q query entry value by given past e k within h said =
+    let new = with_answer q entry given in
     record {
       state = record {
-        locks = locks_as (LockFits sc was.entries) (LockFits sc entries) was.locks
-            (moved_in_deaths sc was.entries q.txn.0 new within (λ old found. ap (λ (e : Entry). e.age) (same_Some entry old (sym k.found ∙ found)))) h.state.locks;
-        kept = placed_set (λ (n : ℕ) (found : Entry). AnswersDie sc facts s.server found) was.entries q.txn.0 new h.state.kept
-            (each_more (DoneDies sc facts s.server) entry.answers _ (h.state.kept q.txn.0 entry k.found) tt);
+        locks = asked_locks sc s mail q query entry new value by e k within refl h.locks;
+        kept = placed_set (λ (n : ℕ) (found : Entry). AnswersDie sc facts s.server found) s.entries q.txn.0 new h.kept
+            (each_more (DoneDies sc facts s.server) entry.answers _ (answers_kept sc facts s.server s mail q query entry value k h.kept) said);
       };
-      places = length-set was.entries q.txn.0 (Some new) ∙ h.places;
+      places = length-set s.entries q.txn.0 (Some new);
+      letters = (done_sent sc facts place s.server (reply_of q entry.epoch given) past said, tt);
+    }
+
+-- the state once what waited has an answer, after what was done before: its entry keeps its age, and the answer is kept
+resumed_state : (sc : Scenario) (facts : List Fact) (place : ℕ) (s : Server) (effect : Effect Server) (grant : Grant) (q : QueryRequest) (query : Query) (entry new : Entry) (value : ℤ) (store : Contents) → IsResumed sc s.server effect.state grant q query entry value
+    → length s.entries ≡ length sc.txns → RowDies sc facts place s effect → new.age ≡ entry.age → AnswersDie sc facts s.server new
+    → ServerDies sc facts s.server (record effect.state { store = store; entries = slice_set effect.state.entries q.txn.0 (Some new); locks = without_grant effect.state.locks })
+resumed_state sc facts place s effect grant q query entry new value store k places h same said =
+    let was = effect.state in
+    let exists = k.exists in
+    let within : q.txn.0 < length was.entries = let same_places = h.places in omega (arith, exists, same_places, places) in
+    record {
+      locks = locks_as (LockFits sc was.entries) (LockFits sc (slice_set was.entries q.txn.0 (Some new))) was.locks
+          (moved_in_deaths sc was.entries q.txn.0 new within (λ old found. same ∙ ap (λ (e : Entry). e.age) (same_Some entry old (sym k.found ∙ found)))) h.state.locks;
+      kept = placed_set (λ (n : ℕ) (found : Entry). AnswersDie sc facts s.server found) was.entries q.txn.0 new h.state.kept said;
+    }
+
+-- the answers so far of what waited
+resumed_kept : (sc : Scenario) (facts : List Fact) (place : ℕ) (s : Server) (effect : Effect Server) (grant : Grant) (q : QueryRequest) (query : Query) (entry : Entry) (value : ℤ) → IsResumed sc s.server effect.state grant q query entry value
+    → RowDies sc facts place s effect → Each (DoneDies sc facts s.server) entry.answers
+resumed_kept sc facts place s effect grant q query entry value k h = h.state.kept q.txn.0 entry k.found
+
+-- what waited runs, after what was done before
+resumes_dies : (sc : Scenario) (facts : List Fact) (place : ℕ) (s : Server) (effect : Effect Server) (grant : Grant) (q : QueryRequest) (query : Query) (entry : Entry) (value : ℤ) (proof : Option Verdict) → IsResumed sc s.server effect.state grant q query entry value
+    → length s.entries ≡ length sc.txns → RowDies sc facts place s effect → RowDies sc facts place s (with_locks (followed_by effect (resuming effect.state q query entry value proof)) (without_grant effect.state.locks))
+resumes_dies sc facts place s effect grant q query entry value proof k places h =
+    let new = entry_after q (unwaiting entry) (deed_of q.query query value) proof in
+    record {
+      state = resumed_state sc facts place s effect grant q query entry new value _ k places h refl (each_more (DoneDies sc facts s.server) entry.answers _ (resumed_kept sc facts place s effect grant q query entry value k h) tt);
+      places = length-set effect.state.entries q.txn.0 (Some new) ∙ h.places;
+      letters = each_more (LetterDies sc facts place) effect.reaction.letters _ h.letters tt;
+    }
+
+-- the proof of what waited is false
+resumed_denied_dies : (sc : Scenario) (facts : List Fact) (place : ℕ) (s : Server) (effect : Effect Server) (grant : Grant) (q : QueryRequest) (query : Query) (entry : Entry) (value : ℤ) (verdict : Verdict) → IsResumed sc s.server effect.state grant q query entry value
+    → length s.entries ≡ length sc.txns → RowDies sc facts place s effect → RowDies sc facts place s (with_locks (followed_by effect (denying effect.state q entry verdict)) (without_grant effect.state.locks))
+resumed_denied_dies sc facts place s effect grant q query entry value verdict k places h =
+    let new = with_answer q (unwaiting entry) (answer.Denied verdict) in
+    record {
+      state = resumed_state sc facts place s effect grant q query entry new value _ k places h refl (each_more (DoneDies sc facts s.server) entry.answers _ (resumed_kept sc facts place s effect grant q query entry value k h) tt);
+      places = length-set effect.state.entries q.txn.0 (Some new) ∙ h.places;
       letters = each_more (LetterDies sc facts place) effect.reaction.letters _ h.letters tt;
     }
 
@@ -154,8 +192,8 @@ server_row_dies sc facts place s mail past rightly known h =
     server_by_locks sc s mail (RowDies sc facts place s) rightly
     (record {
       ignored = still_dies sc facts place s [] h tt;
-      ran = λ q query entry value k granted.
-          let new = entry_after q entry (deed_of q.query query value) in
+      ran = λ q query entry value proof k granted r.
+          let new = entry_after q entry (deed_of q.query query value) proof in
           let within = within_for q k.said_is in
           record {
             state = record {
@@ -166,6 +204,7 @@ server_row_dies sc facts place s mail past rightly known h =
             places = length-set s.entries q.txn.0 (Some new);
             letters = (tt, tt);
           };
+      denied = λ q query entry value verdict k granted d. answers_dies sc facts place s mail q query entry value asked.Granted (answer.Denied verdict) past granted k (within_for q k.said_is) h tt;
       waited = λ q query entry value k waiting.
           let new : Entry = record entry { waiting = Some q } in
           record {
@@ -177,18 +216,7 @@ server_row_dies sc facts place s mail past rightly known h =
             letters = tt;
           };
       died = λ q query entry value other k dying.
-          let answer = died_reply q entry.epoch other in
-          let new : Entry = record entry { answers = entry.answers ++ answer ∷ [] } in
-          let death : DoneDies sc facts s.server answer = known.dying q query entry value other k dying in
-          record {
-            state = record {
-              locks = asked_locks sc s mail q query entry new value (asked.Dies other) dying k (within_for q k.said_is) refl h.locks;
-              kept = placed_set (λ (n : ℕ) (found : Entry). AnswersDie sc facts s.server found) s.entries q.txn.0 new h.kept
-                  (each_more (DoneDies sc facts s.server) entry.answers answer (answers_kept sc facts s.server s mail q query entry value k h.kept) death);
-            };
-            places = length-set s.entries q.txn.0 (Some new);
-            letters = (done_sent sc facts place s.server answer past death, tt);
-          };
+          answers_dies sc facts place s mail q query entry value (asked.Dies other) (answer.Died other) past dying k (within_for q k.said_is) h (known.dying q query entry value other k dying);
       restarted = λ q k. still_dies sc facts place s _ h (tt, tt);
       answered = λ q entry given k.
           still_dies sc facts place s _ h
@@ -213,7 +241,8 @@ server_row_dies sc facts place s mail past rightly known h =
       acknowledged = λ d settled k. still_dies sc facts place s _ h (tt, tt);
       pushed = λ push k. record { state = record { locks = h.locks; kept = h.kept }; places = refl; letters = tt };
       passed = λ effect grant first nobody k. record { state = record { locks = k.state.locks; kept = k.state.kept }; places = k.places; letters = k.letters };
-      resumed = λ effect grant q query entry value k now. resumes_dies sc facts place s effect grant q query entry value k known.places now;
+      resumed = λ effect grant q query entry value proof k r now. resumes_dies sc facts place s effect grant q query entry value proof k known.places now;
+      resumed_denied = λ effect grant q query entry value verdict k d now. resumed_denied_dies sc facts place s effect grant q query entry value verdict k known.places now;
     })
   where
     within_for : (q : QueryRequest) → mail.letter.body ≡ body.Query q → q.txn.0 < length s.entries

@@ -3,16 +3,16 @@ use Rattle.std.proofs.Common.{List, None, Option, Some, [], ap, false, is_some, 
 use Rattle.tp_types.specs.Effect.{Effect, ignores, sends}
 use Rattle.tp_model.specs.Words.body
 use Rattle.tp_model.specs.Words.outcome
-use Rattle.tp_model.specs.Words.{Actor, Body, Mail, Outcome, Scenario, ServerId, Staple, Verdict}
+use Rattle.tp_model.specs.Words.{Actor, Body, Letter, Mail, Outcome, Reading, Scenario, ServerId, Staple, Verdict}
 use Rattle.tp_runs.proofs.agreement.Coordinator.{idle_is}
 use Rattle.tp_runs.proofs.basics.Homes.{HaveHomes}
 use Rattle.tp_runs.proofs.basics.Phases.{has_run_at, is_undecided}
 use Rattle.tp_runs.proofs.epochs.Asked.{Asking, NamesKept, asked_then, kept_are_asked, kept_are_own, then_kept}
-use Rattle.tp_runs.proofs.epochs.Kept.{CoordinatorEpochs, CoordinatorKeeps, IsDoneMail, KeepsAsked, KeepsEpoch, PhaseKept, RowKeeps, again_keeps, ignores_keeps, kept_epoch, plain_keeps, query_again_keeps, query_keeps, ran_last_keeps, ran_next_keeps}
+use Rattle.tp_runs.proofs.epochs.Kept.{CoordinatorEpochs, CoordinatorKeeps, IsDoneMail, KeepsAsked, KeepsEpoch, PhaseKept, RowKeeps, again_keeps, ignores_keeps, kept_epoch, plain_keeps, query_again_keeps, query_keeps, ran_last_keeps, ran_next_keeps, ran_staple_keeps}
 use Rattle.tp_runs.proofs.epochs.Server.{IsPlainLetter, LetterFirst, LetterTold}
 use Rattle.tp_scheme.specs.declared.moves.Move.TheVariants as move
 use Rattle.tp_scheme.specs.declared.moves.Point.TheVariants as point
-use Rattle.tp_coord.proofs.Rows.{Gained, IsPassed, QueryRan, coordinator_by, gains_instances, submit_by, timer_by, with_gained}
+use Rattle.tp_coord.proofs.Rows.{ByReading, ByVotes, Gained, IsJudged, IsPassed, QueryRan, coordinator_by, gains_instances, submit_by, timer_by, with_gained}
 use Rattle.tp_machine.specs.Machine.{with_age}
 use Rattle.tp_types.specs.Each.{Each}
 use Rattle.tp_coord.specs.Opened.{servers_at}
@@ -76,39 +76,64 @@ pub orders_plain : (c : Coordinator) (ended : Outcome) (servers : List ServerId)
 orders_plain c ended [] = tt
 orders_plain c ended (at ∷ servers) = (tt, orders_plain c ended servers)
 
+-- an epoch is kept of each server of a round with a reply more
+replied_kept : (sc : Scenario) (E : ℕ → ℕ) (A : Asking) (c : Coordinator) (round : Round) (staple : Staple) (at : ServerId) (verdicts : List Verdict) → CoordinatorKeeps sc E (A c.txn) c
+    → c.phase ≡ phase.Checking span.Commit round staple → EachServer (KeepsEpoch c) (after_reply round at verdicts).targets
+replied_kept sc E A c round staple at verdicts h e = each_replied (KeepsEpoch c) round.targets at verdicts (subst (PhaseKept (KeepsEpoch c)) e (h.undecided (ap is_undecided e)).round)
+
+-- a coordinator that moves to a phase before which as much has run, and keeps the epochs that this speaks of
+moves_keeps : (sc : Scenario) (E : ℕ → ℕ) (A : Asking) (c : Coordinator) (turn : ℕ) (next : Phase) (letters : List Letter) → CoordinatorKeeps sc E (A c.txn) c → is_undecided c.phase ≡ true
+    → ((s : ServerId) → has_run_at sc c.txn c.phase s ≡ has_run_at sc c.txn next s) → PhaseKept (KeepsEpoch c) next → Each IsPlainLetter letters
+    → CoordinatorEpochs sc E A c.txn (Some (record c { turn = turn; phase = next })) letters
+moves_keeps sc E A c turn next letters h undecided ran round plain =
+    let k : KeepsAsked sc (A c.txn) c = h.undecided undecided in
+    plain_keeps sc E A c.txn (Some (record c { turn = turn; phase = next })) letters
+    (record { places = h.places; past = h.past; undecided = λ unsure. record { asked = k.asked; ran = λ s. k.ran s ∙ ran s; round = round } }) plain
+
 counted_keeps : (sc : Scenario) (E : ℕ → ℕ) (A : Asking) (c : Coordinator) (round : Round) (staple : Staple) (at : ServerId) (verdicts : List Verdict) → CoordinatorKeeps sc E (A c.txn) c
     → c.phase ≡ phase.Checking span.Commit round staple → RowKeeps sc E A c (sends (record c { phase = phase.Checking span.Commit (after_reply round at verdicts) staple }) [])
 counted_keeps sc E A c round staple at verdicts h e =
-    let k : KeepsAsked sc (A c.txn) c = h.undecided (ap is_undecided e) in
-    let kept : EachServer (KeepsEpoch c) round.targets = subst (PhaseKept (KeepsEpoch c)) e k.round in
-    plain_keeps sc E A c.txn (Some (record c { phase = phase.Checking span.Commit (after_reply round at verdicts) staple })) []
-    (record {
-      places = h.places;
-      past = h.past;
-      undecided = λ unsure. record {
-        asked = k.asked;
-        ran = λ s. k.ran s ∙ ap (λ (p : Phase). has_run_at sc c.txn p s) e;
-        round = each_replied (KeepsEpoch c) round.targets at verdicts kept;
-      };
-    }) tt
+    moves_keeps sc E A c c.turn (phase.Checking span.Commit (after_reply round at verdicts) staple) [] h (ap is_undecided e) (λ s. ap (λ (p : Phase). has_run_at sc c.txn p s) e)
+    (replied_kept sc E A c round staple at verdicts h e) tt
+
+-- the master is read once all have replied
+probes_keeps : (sc : Scenario) (E : ℕ → ℕ) (A : Asking) (c : Coordinator) (round : Round) (staple : Staple) (at : ServerId) (verdicts : List Verdict) → CoordinatorKeeps sc E (A c.txn) c
+    → c.phase ≡ phase.Checking span.Commit round staple → RowKeeps sc E A c (coord.probes c (phase.Reading span.Commit (after_reply round at verdicts)))
+probes_keeps sc E A c round staple at verdicts h e =
+    moves_keeps sc E A c (coord.next_turn c) (phase.Reading span.Commit (after_reply round at verdicts)) (coord.probe_letter c (coord.next_turn c) ∷ []) h (ap is_undecided e) (λ s. ap (λ (p : Phase). has_run_at sc c.txn p s) e)
+    (replied_kept sc E A c round staple at verdicts h e) (tt, tt)
+
+-- a coordinator that judges a round keeps an epoch of each of its servers
+record IsJudging (sc : Scenario) (c : Coordinator) (round : Round) : Type 0 where
+  pub undecided : is_undecided c.phase ≡ true
+  pub ran : (over : Round) (s : ServerId) → has_run_at sc c.txn c.phase s ≡ has_run_at sc c.txn (phase.Asking span.Commit over) s
+  pub kept : EachServer (KeepsEpoch c) round.targets
+
+judging : (sc : Scenario) (E : ℕ → ℕ) (A : Asking) (c : Coordinator) (mail : Mail) (round : Round) (staple : Option Staple) (reading : Option Reading) → CoordinatorKeeps sc E (A c.txn) c → IsJudged c mail round staple reading
+    → IsJudging sc c round
+judging sc E A c mail _ _ _ h (ByVotes reply round staple at verdicts y whole unread) =
+    record { undecided = ap is_undecided y.checking; ran = λ over s. ap (λ (p : Phase). has_run_at sc c.txn p s) y.checking; kept = replied_kept sc E A c round staple at verdicts h y.checking }
+judging sc E A c mail _ _ _ h (ByReading reply round k) =
+    let undecided : is_undecided c.phase ≡ true = ap is_undecided k.reading in
+    record { undecided = undecided; ran = λ over s. ap (λ (p : Phase). has_run_at sc c.txn p s) k.reading; kept = subst (PhaseKept (KeepsEpoch c)) k.reading (h.undecided undecided).round }
 
 -- the authority is asked before a further round
-updated_keeps : (sc : Scenario) (E : ℕ → ℕ) (A : Asking) (c : Coordinator) (round : Round) (staple : Staple) (at : ServerId) (verdicts : List Verdict) (named : List Wanted) → CoordinatorKeeps sc E (A c.txn) c
-    → c.phase ≡ phase.Checking span.Commit round staple → judge (after_reply round at verdicts) None ≡ judged.Update named
-    → RowKeeps sc E A c (coord.asks c span.Commit (after_judgement (after_reply round at verdicts) None))
-updated_keeps sc E A c round staple at verdicts named h e judgement =
-    let k : KeepsAsked sc (A c.txn) c = h.undecided (ap is_undecided e) in
-    let replied = after_reply round at verdicts in
-    let kept : EachServer (KeepsEpoch c) replied.targets = each_replied (KeepsEpoch c) round.targets at verdicts (subst (PhaseKept (KeepsEpoch c)) e k.round) in
-    let next = after_judgement replied None in
+updated_keeps : (sc : Scenario) (E : ℕ → ℕ) (A : Asking) (c : Coordinator) (round : Round) (reading : Option Reading) (named : List Wanted) → CoordinatorKeeps sc E (A c.txn) c → IsJudging sc c round
+    → judge round reading ≡ judged.Update named → RowKeeps sc E A c (coord.asks c span.Commit (after_judgement round reading))
+updated_keeps sc E A c round reading named h k judgement =
+    let next = after_judgement round reading in
     let renewed : EachServer (KeepsEpoch c) next.targets =
-    subst (λ (r : Round). EachServer (KeepsEpoch c) r.targets) (sym (updated_is replied named judgement)) (each_renewed (KeepsEpoch c) (aim_in replied None) replied.targets kept) in
-    plain_keeps sc E A c.txn (Some (coord.asks c span.Commit next).state) (coord.asks c span.Commit next).reaction.letters
-    (record {
-      places = h.places;
-      past = h.past;
-      undecided = λ unsure. record { asked = k.asked; ran = λ s. k.ran s ∙ ap (λ (p : Phase). has_run_at sc c.txn p s) e; round = renewed };
-    }) (tt, tt)
+    subst (λ (r : Round). EachServer (KeepsEpoch c) r.targets) (sym (updated_is round reading named judgement)) (each_renewed (KeepsEpoch c) (aim_in round reading) round.targets k.kept) in
+    moves_keeps sc E A c (coord.next_turn c) (phase.Asking span.Commit next) (coord.ask_letter c (coord.next_turn c) ∷ []) h k.undecided (k.ran next) renewed (tt, tt)
+
+-- ---- Tell, before a query
+
+-- the query is asked with the staple
+stapled_keeps : (sc : Scenario) (E : ℕ → ℕ) (A : Asking) (c : Coordinator) (number : ℕ) (staple : Staple) (at : ServerId) → CoordinatorKeeps sc E (A c.txn) c → c.phase ≡ phase.Stapling number
+    → RowKeeps sc E A c (coord.sends_query sc c number (Some staple) at)
+stapled_keeps sc E A c number staple at h e =
+    let k : KeepsAsked sc (A c.txn) c = h.undecided (ap is_undecided e) in
+    query_keeps sc E A c number (Some staple) at h.places h.past k.asked (λ s. k.ran s ∙ ap (λ (p : Phase). has_run_at sc c.txn p s) e)
 
 -- ---- all mails
 
@@ -124,29 +149,35 @@ coordinator_row_keeps sc E A c mail homes h servers m =
     coordinator_by sc c mail (RowKeeps sc E A c)
     (record {
       ignored = ignores_keeps sc E A c h;
+      stapled = λ tell query home k there. stapled_keeps sc E A c query (coord.staple_of tell mail.sent) home h k.stapling;
       sends_query = λ query now next passed moves home. sent query now next passed;
+      asks_staple = λ query now passed moves. asked_first query now passed;
       commit_rounds = λ query now passed moves. brought query now passed moves;
       told = λ tell round k. prepares_keeps sc E A c round (coord.staple_of tell mail.sent) h k.asking;
       counted = λ reply round staple at verdicts y. counted_keeps sc E A c round staple at verdicts h y.checking;
+      probed = λ reply round staple at verdicts y whole reads. probes_keeps sc E A c round staple at verdicts h y.checking;
       decides = λ instances rounds passed.
           plain_keeps sc E A c.txn (Some (coord.commits (with_gained c (gains_instances c instances)) rounds).state) (coord.decide_letters c outcome.Commit c.servers)
           (record { places = h.places; past = h.past; undecided = λ unsure. absurd (cc) }) (orders_plain c outcome.Commit c.servers);
       aborted = λ why ended.
           plain_keeps sc E A c.txn (Some (coord.aborts c why).state) (coord.decide_letters c outcome.Abort c.servers)
           (record { places = h.places; past = h.past; undecided = λ unsure. absurd (cc) }) (orders_plain c outcome.Abort c.servers);
-      updated = λ reply round staple at verdicts named y e. updated_keeps sc E A c round staple at verdicts named h y.checking e;
+      updated = λ round staple reading named j e. updated_keeps sc E A c round reading named h (judging sc E A c mail round staple reading h j) e;
       acknowledged = λ ack ended awaited at k.
           plain_keeps sc E A c.txn (Some (record c { phase = phase.Ending ended (coord.without awaited at) })) []
           (record { places = h.places; past = h.past; undecided = λ unsure. absurd (cc) }) tt;
       inquired = λ inquiry ended awaited at k. plain_keeps sc E A c.txn (Some c) (coord.decide_letters c ended (at ∷ [])) h (orders_plain c ended (at ∷ []));
     })
   where
-    sent : (query : ℕ) (now : Gained) (next : ServerId) → IsPassed sc c mail (point.Ran query) now → RowKeeps sc E A c (coord.sends_query sc (with_gained c now) (coord.next_number query) next)
-    sent _ _ next (QueryRan done at asked value k) = ran_next_keeps sc E A c mail done at asked value next homes h (subst (IsMail sc E A c mail.letter.from) k.said_is m) k
+    sent : (query : ℕ) (now : Gained) (next : ServerId) → IsPassed sc c mail (point.Ran query) now → RowKeeps sc E A c (coord.sends_query sc (with_gained c now) (coord.next_number query) None next)
+    sent _ _ next (QueryRan done at asked value proof k) = ran_next_keeps sc E A c mail done at asked value proof next homes h (subst (IsMail sc E A c mail.letter.from) k.said_is m) k
+
+    asked_first : (query : ℕ) (now : Gained) → IsPassed sc c mail (point.Ran query) now → RowKeeps sc E A c (coord.asks_in (with_gained c now) (phase.Stapling (coord.next_number query)))
+    asked_first _ _ (QueryRan done at asked value proof k) = ran_staple_keeps sc E A c mail done at asked value proof homes h (subst (IsMail sc E A c mail.letter.from) k.said_is m) k
 
     brought : (query : ℕ) (now : Gained) → IsPassed sc c mail (point.Ran query) now → coord.move_after sc c query ≡ move.CommitRounds
-        → RowKeeps sc E A c (coord.asks (with_gained c now) span.Commit (coord.commit_round c))
-    brought _ _ (QueryRan done at asked value k) moves = ran_last_keeps sc E A c mail done at asked value homes h servers (subst (IsMail sc E A c mail.letter.from) k.said_is m) k moves
+        → RowKeeps sc E A c (coord.asks (with_gained c now) span.Commit (coord.commit_round sc c))
+    brought _ _ (QueryRan done at asked value proof k) moves = ran_last_keeps sc E A c mail done at asked value proof homes h servers (subst (IsMail sc E A c mail.letter.from) k.said_is m) k moves
 
 -- ---- Submit
 
@@ -159,10 +190,15 @@ aged_keeps sc E A c effect age h =
       sent = h.sent;
     }
 
-sent_keeps : (sc : Scenario) (E : ℕ → ℕ) (A : Asking) (c : Coordinator) (at : ServerId) → CoordinatorKeeps sc E (A c.txn) c → c.phase ≡ phase.Idle → RowKeeps sc E A c (coord.sends_query sc c 1 at)
+sent_keeps : (sc : Scenario) (E : ℕ → ℕ) (A : Asking) (c : Coordinator) (at : ServerId) → CoordinatorKeeps sc E (A c.txn) c → c.phase ≡ phase.Idle → RowKeeps sc E A c (coord.sends_query sc c 1 None at)
 sent_keeps sc E A c at h e =
     let k : KeepsAsked sc (A c.txn) c = h.undecided (ap is_undecided e) in
-    query_keeps sc E A c 1 at h.places h.past k.asked (λ s. k.ran s ∙ ap (λ (p : Phase). has_run_at sc c.txn p s) e)
+    query_keeps sc E A c 1 None at h.places h.past k.asked (λ s. k.ran s ∙ ap (λ (p : Phase). has_run_at sc c.txn p s) e)
+
+-- the authority is asked before the first query
+first_staple_keeps : (sc : Scenario) (E : ℕ → ℕ) (A : Asking) (c : Coordinator) → CoordinatorKeeps sc E (A c.txn) c → c.phase ≡ phase.Idle → RowKeeps sc E A c (coord.asks_in c (phase.Stapling 1))
+first_staple_keeps sc E A c h e =
+    moves_keeps sc E A c (coord.next_turn c) (phase.Stapling 1) (coord.ask_letter c (coord.next_turn c) ∷ []) h (ap is_undecided e) (λ s. ap (λ (p : Phase). has_run_at sc c.txn p s) e) tt (tt, tt)
 
 -- the submission of a transaction
 pub submit_row_keeps : (sc : Scenario) (E : ℕ → ℕ) (A : Asking) (c : Coordinator) (age : ℕ) → CoordinatorKeeps sc E (A c.txn) c → coord.is_begun c.phase ≡ false → RowKeeps sc E A c (with_age (coord.submit_row sc c) age)
@@ -170,7 +206,8 @@ submit_row_keeps sc E A c age h b =
     submit_by sc c (λ (effect : Effect Coordinator). RowKeeps sc E A c (with_age effect age))
     (record {
       ignored = aged_keeps sc E A c (ignores c) age (ignores_keeps sc E A c h);
-      sent = λ at home. aged_keeps sc E A c (coord.sends_query sc c 1 at) age (sent_keeps sc E A c at h (idle_is c.phase b));
+      sent = λ at moves home. aged_keeps sc E A c (coord.sends_query sc c 1 None at) age (sent_keeps sc E A c at h (idle_is c.phase b));
+      asked = λ moves. aged_keeps sc E A c (coord.asks_in c (phase.Stapling 1)) age (first_staple_keeps sc E A c h (idle_is c.phase b));
     })
 
 -- ---- timers
@@ -191,8 +228,10 @@ timer_keeps sc E A c h =
     timer_by sc c (CoordinatorEpochs sc E A c.txn (Some c))
     (record {
       silent = ignores_keeps sc E A c h;
-      queried = λ number at querying home. query_again_keeps sc E A c number at h querying;
+      stapled = λ number stapling. plain_keeps sc E A c.txn (Some c) (coord.ask_letter c c.turn ∷ []) h (tt, tt);
+      queried = λ number staple at querying home. query_again_keeps sc E A c number staple at h querying;
       asked = λ over round asking. plain_keeps sc E A c.txn (Some c) (coord.ask_letter c c.turn ∷ []) h (tt, tt);
+      read = λ over round reading. plain_keeps sc E A c.txn (Some c) (coord.probe_letter c c.turn ∷ []) h (tt, tt);
       prepared = λ round staple checking. prepares_again_keeps sc E A c round staple h checking;
       ordered = λ ended awaited ending. plain_keeps sc E A c.txn (Some c) (coord.decide_letters c ended awaited) h (orders_plain c ended awaited);
     })

@@ -11,7 +11,7 @@ use Rattle.tp_model.specs.Agreement.{has_item_at}
 use Rattle.tp_model.specs.Queries.{is_at_server}
 use Rattle.tp_model.specs.Words.actor
 use Rattle.tp_model.specs.Words.body
-use Rattle.tp_model.specs.Words.{Actor, DoneReply, Letter, Mail, Query, Scenario, ServerId, TxnId}
+use Rattle.tp_model.specs.Words.{Actor, DoneReply, Letter, Mail, Query, Scenario, ServerId, Staple, TxnId, Verdict}
 use Rattle.tp_runs.proofs.agreement.Coordinator.{servers_at_have_items}
 use Rattle.tp_runs.proofs.basics.Homes.{HaveHomes, last_is, next_is}
 use Rattle.tp_runs.proofs.basics.Ids.{server_number}
@@ -116,7 +116,8 @@ asked_chosen false epoch n kept same e = e
 
 -- the reply to the query that is awaited, from its server
 record IsAnswer (sc : Scenario) (E : ℕ → ℕ) (A : Asking) (c : Coordinator) (done : DoneReply) (asked : Query) (at : ServerId) : Type 0 where
-  pub awaits : c.phase ≡ phase.Querying done.query None
+  pub staple : Option Staple
+  pub awaits : c.phase ≡ phase.Querying done.query staple
   pub asked_is : query_in sc c.txn done.query ≡ Some asked
   pub at_is : coord.server_of sc asked ≡ Some at
   pub exists : at.0 < length sc.servers
@@ -171,15 +172,19 @@ deed_keeps sc E A c done asked at value h m =
           ∙ sym (next_ran sc c.txn done.query asked (is_at_server sc s.0) m.asked_is))));
     }
 
+-- the coordinator with the deed, and with an instance of its proof if it has one
+abbrev pub with_ran : Coordinator → ServerId → DoneReply → Query → ℤ → Option Verdict → Coordinator
+with_ran c at done asked value proof = coord.with_proof (coord.with_deed c at done asked value) proof
+
 -- the last query ran: all servers are asked to prepare
-last_keeps : (sc : Scenario) (E : ℕ → ℕ) (A : Asking) (c : Coordinator) (done : DoneReply) (asked : Query) (at : ServerId) (value : ℤ) → CoordinatorKeeps sc E (A c.txn) c → c.servers ≡ servers_at sc c.txn
-    → IsAnswer sc E A c done asked at → query_in sc c.txn (done.query + 1) ≡ None → RowKeeps sc E A c (coord.asks (coord.with_deed c at done asked value) span.Commit (coord.commit_round (coord.with_deed c at done asked value)))
-last_keeps sc E A c done asked at value h servers m last =
-    let now = coord.with_deed c at done asked value in
-    let next = (coord.asks now span.Commit (coord.commit_round now)).state in
+last_keeps : (sc : Scenario) (E : ℕ → ℕ) (A : Asking) (c : Coordinator) (done : DoneReply) (asked : Query) (at : ServerId) (value : ℤ) (proof : Option Verdict) → CoordinatorKeeps sc E (A c.txn) c
+    → c.servers ≡ servers_at sc c.txn → IsAnswer sc E A c done asked at → query_in sc c.txn (done.query + 1) ≡ None → RowKeeps sc E A c (coord.asks (with_ran c at done asked value proof) span.Commit (coord.commit_round sc c))
+last_keeps sc E A c done asked at value proof h servers m last =
+    let now = with_ran c at done asked value proof in
+    let next = (coord.asks now span.Commit (coord.commit_round sc c)).state in
     let k = deed_keeps sc E A c done asked at value h m in
     let ran : (s : ServerId) → is_some (kept_epoch next s) ≡ has_run_at sc c.txn next.phase s = λ s. k.ran s ∙ ap (list_any (is_at_server sc s.0)) (all_ran sc c.txn done.query last) in
-    plain_keeps sc E A c.txn (Some next) (coord.asks now span.Commit (coord.commit_round now)).reaction.letters
+    plain_keeps sc E A c.txn (Some next) (coord.asks now span.Commit (coord.commit_round sc c)).reaction.letters
     (record {
       places = k.places;
       past = k.past;
@@ -201,11 +206,11 @@ none_or_some None b e = ap not e
 none_or_some (Some epoch) b e = ap not e
 
 -- a query is asked, of the epoch that is kept of its server
-pub query_keeps : (sc : Scenario) (E : ℕ → ℕ) (A : Asking) (c : Coordinator) (number : ℕ) (at : ServerId) → length c.epochs ≡ length sc.servers → EachPlaced (λ (n : ℕ) (epoch : ℕ). epoch ≤ E n) c.epochs
-    → ((s : ServerId) (epoch : ℕ) → A c.txn s ≡ Some epoch → kept_epoch c s ≡ Some epoch) → ((s : ServerId) → is_some (kept_epoch c s) ≡ has_run_at sc c.txn (phase.Querying number None) s)
-    → RowKeeps sc E A c (coord.sends_query sc c number at)
-query_keeps sc E A c number at places past asked ran =
-    let letters = (coord.sends_query sc c number at).reaction.letters in
+pub query_keeps : (sc : Scenario) (E : ℕ → ℕ) (A : Asking) (c : Coordinator) (number : ℕ) (staple : Option Staple) (at : ServerId) → length c.epochs ≡ length sc.servers
+    → EachPlaced (λ (n : ℕ) (epoch : ℕ). epoch ≤ E n) c.epochs → ((s : ServerId) (epoch : ℕ) → A c.txn s ≡ Some epoch → kept_epoch c s ≡ Some epoch) → ((s : ServerId) → is_some (kept_epoch c s) ≡ has_run_at sc c.txn (phase.Querying number staple) s)
+    → RowKeeps sc E A c (coord.sends_query sc c number staple at)
+query_keeps sc E A c number staple at places past asked ran =
+    let letters = (coord.sends_query sc c number staple at).reaction.letters in
     let names : Each (NamesKept c.txn (kept_epoch c)) letters = (names_told c at (kept_epoch c at) refl, tt) in
     record {
       keeps = record {
@@ -216,19 +221,33 @@ query_keeps sc E A c number at places past asked ran =
       own = kept_are_own c.txn (kept_epoch c) letters names;
       sent = record {
         named = kept_are_asked A c.txn (kept_epoch c) letters asked names;
-        first = (none_or_some (kept_epoch c at) (has_run_at sc c.txn (phase.Querying number None) at) (ran at), tt);
+        first = (none_or_some (kept_epoch c at) (has_run_at sc c.txn (phase.Querying number staple) at) (ran at), tt);
         told = (tt, tt);
       };
     }
 
--- a further query is to run
-next_keeps : (sc : Scenario) (E : ℕ → ℕ) (A : Asking) (c : Coordinator) (done : DoneReply) (asked : Query) (at next : ServerId) (value : ℤ) → CoordinatorKeeps sc E (A c.txn) c
-    → IsAnswer sc E A c done asked at → coord.next_number done.query ≡ done.query + 1 → RowKeeps sc E A c (coord.sends_query sc (coord.with_deed c at done asked value) (coord.next_number done.query) next)
-next_keeps sc E A c done asked at next value h m further =
-    let k = deed_keeps sc E A c done asked at value h m in
+-- before a further query those up to the one that ran have run
+ran_before_next : (sc : Scenario) (E : ℕ → ℕ) (A : Asking) (c : Coordinator) (done : DoneReply) (asked : Query) (at : ServerId) (value : ℤ) → DeedKept sc E A c done.query (coord.with_deed c at done asked value)
+    → coord.next_number done.query ≡ done.query + 1 → (s : ServerId) → is_some (kept_epoch (coord.with_deed c at done asked value) s) ≡ has_run_at sc c.txn (phase.Stapling (coord.next_number done.query)) s
+ran_before_next sc E A c done asked at value k further s =
     let before : done.query ≡ coord.next_number done.query - 1 = omega (arith, further) in
-    query_keeps sc E A (coord.with_deed c at done asked value) (coord.next_number done.query) next k.places k.past k.asked
-    (λ s. k.ran s ∙ ap (λ (n : ℕ). list_any (is_at_server sc s.0) (take n (queries_of sc c.txn))) before)
+    k.ran s ∙ ap (λ (n : ℕ). list_any (is_at_server sc s.0) (take n (queries_of sc c.txn))) before
+
+-- the authority is asked before a further query
+staple_keeps : (sc : Scenario) (E : ℕ → ℕ) (A : Asking) (c : Coordinator) (done : DoneReply) (asked : Query) (at : ServerId) (value : ℤ) (proof : Option Verdict) → CoordinatorKeeps sc E (A c.txn) c
+    → IsAnswer sc E A c done asked at → coord.next_number done.query ≡ done.query + 1 → RowKeeps sc E A c (coord.asks_in (with_ran c at done asked value proof) (phase.Stapling (coord.next_number done.query)))
+staple_keeps sc E A c done asked at value proof h m further =
+    let next = (coord.asks_in (with_ran c at done asked value proof) (phase.Stapling (coord.next_number done.query))).state in
+    let k = deed_keeps sc E A c done asked at value h m in
+    plain_keeps sc E A c.txn (Some next) (coord.ask_letter c (coord.next_turn c) ∷ [])
+    (record { places = k.places; past = k.past; undecided = λ unsure. record { asked = k.asked; ran = ran_before_next sc E A c done asked at value k further; round = tt } }) (tt, tt)
+
+-- a further query is to run
+next_keeps : (sc : Scenario) (E : ℕ → ℕ) (A : Asking) (c : Coordinator) (done : DoneReply) (asked : Query) (at next : ServerId) (value : ℤ) (proof : Option Verdict) → CoordinatorKeeps sc E (A c.txn) c
+    → IsAnswer sc E A c done asked at → coord.next_number done.query ≡ done.query + 1 → RowKeeps sc E A c (coord.sends_query sc (with_ran c at done asked value proof) (coord.next_number done.query) None next)
+next_keeps sc E A c done asked at next value proof h m further =
+    let k = deed_keeps sc E A c done asked at value h m in
+    query_keeps sc E A (with_ran c at done asked value proof) (coord.next_number done.query) None next k.places k.past k.asked (ran_before_next sc E A c done asked at value k further)
 
 -- what a coordinator knows of the mail's sender and transaction
 pub record IsDoneMail (sc : Scenario) (E : ℕ → ℕ) (A : Asking) (c : Coordinator) (from : Actor) (done : DoneReply) : Type 0 where
@@ -236,12 +255,14 @@ pub record IsDoneMail (sc : Scenario) (E : ℕ → ℕ) (A : Asking) (c : Coordi
   pub told : BodyTold sc A E from (body.Done done)
   pub own : done.txn ≡ c.txn
 
-is_answer : (sc : Scenario) (E : ℕ → ℕ) (A : Asking) (c : Coordinator) (mail : Mail) (done : DoneReply) (at : ServerId) (asked : Query) (value : ℤ) → IsDoneMail sc E A c mail.letter.from done
-    → IsRanAnswer sc c mail done at asked value → IsAnswer sc E A c done asked at
-is_answer sc E A c mail done at asked value m k =
+is_answer : (sc : Scenario) (E : ℕ → ℕ) (A : Asking) (c : Coordinator) (mail : Mail) (done : DoneReply) (at : ServerId) (asked : Query) (value : ℤ) (proof : Option Verdict) → IsDoneMail sc E A c mail.letter.from done
+    → IsRanAnswer sc c mail done at asked value proof → IsAnswer sc E A c done asked at
+is_answer sc E A c mail done at asked value proof m k =
     let is : mail.letter.from ≡ actor.Server at = from_server mail.letter.from at k.from_is in
+    let awaits = awaits_is c c.phase done k.awaited in
     record {
-      awaits = awaits_is c c.phase done k.awaited k.plain;
+      staple = awaits.0;
+      awaits = awaits.1;
       asked_is = k.asked_is;
       at_is = k.server_is;
       exists = subst (IsActor sc) is m.from_is_actor;
@@ -251,18 +272,25 @@ is_answer sc E A c mail done at asked value m k =
     }
 
 -- the answer to the last query
-pub ran_last_keeps : (sc : Scenario) (E : ℕ → ℕ) (A : Asking) (c : Coordinator) (mail : Mail) (done : DoneReply) (at : ServerId) (asked : Query) (value : ℤ) → HaveHomes sc → CoordinatorKeeps sc E (A c.txn) c
-    → c.servers ≡ servers_at sc c.txn → IsDoneMail sc E A c mail.letter.from done → IsRanAnswer sc c mail done at asked value → coord.move_after sc c done.query ≡ move.CommitRounds
-    → RowKeeps sc E A c (coord.asks (coord.with_deed c at done asked value) span.Commit (coord.commit_round (coord.with_deed c at done asked value)))
-ran_last_keeps sc E A c mail done at asked value homes h servers m k moves =
-    last_keeps sc E A c done asked at value h servers (is_answer sc E A c mail done at asked value m k) (last_is sc c done.query asked homes k.asked_is moves)
+pub ran_last_keeps : (sc : Scenario) (E : ℕ → ℕ) (A : Asking) (c : Coordinator) (mail : Mail) (done : DoneReply) (at : ServerId) (asked : Query) (value : ℤ) (proof : Option Verdict) → HaveHomes sc
+    → CoordinatorKeeps sc E (A c.txn) c → c.servers ≡ servers_at sc c.txn → IsDoneMail sc E A c mail.letter.from done → IsRanAnswer sc c mail done at asked value proof → coord.move_after sc c done.query ≡ move.CommitRounds
+    → RowKeeps sc E A c (coord.asks (with_ran c at done asked value proof) span.Commit (coord.commit_round sc c))
+ran_last_keeps sc E A c mail done at asked value proof homes h servers m k moves =
+    last_keeps sc E A c done asked at value proof h servers (is_answer sc E A c mail done at asked value proof m k) (last_is sc c done.query asked homes k.asked_is moves)
 
--- the answer to another one
-pub ran_next_keeps : (sc : Scenario) (E : ℕ → ℕ) (A : Asking) (c : Coordinator) (mail : Mail) (done : DoneReply) (at : ServerId) (asked : Query) (value : ℤ) (next : ServerId) → HaveHomes sc
-    → CoordinatorKeeps sc E (A c.txn) c → IsDoneMail sc E A c mail.letter.from done → IsRanAnswer sc c mail done at asked value
-    → RowKeeps sc E A c (coord.sends_query sc (coord.with_deed c at done asked value) (coord.next_number done.query) next)
-ran_next_keeps sc E A c mail done at asked value next homes h m k =
-    next_keeps sc E A c done asked at next value h (is_answer sc E A c mail done at asked value m k) (next_is sc c done.query asked homes k.asked_is)
+-- the answer to another one, which is followed by the next query
+pub ran_next_keeps : (sc : Scenario) (E : ℕ → ℕ) (A : Asking) (c : Coordinator) (mail : Mail) (done : DoneReply) (at : ServerId) (asked : Query) (value : ℤ) (proof : Option Verdict) (next : ServerId) → HaveHomes sc
+    → CoordinatorKeeps sc E (A c.txn) c → IsDoneMail sc E A c mail.letter.from done → IsRanAnswer sc c mail done at asked value proof
+    → RowKeeps sc E A c (coord.sends_query sc (with_ran c at done asked value proof) (coord.next_number done.query) None next)
+ran_next_keeps sc E A c mail done at asked value proof next homes h m k =
+    next_keeps sc E A c done asked at next value proof h (is_answer sc E A c mail done at asked value proof m k) (next_is sc c done.query asked homes k.asked_is)
+
+-- or by a request to the authority before it
+pub ran_staple_keeps : (sc : Scenario) (E : ℕ → ℕ) (A : Asking) (c : Coordinator) (mail : Mail) (done : DoneReply) (at : ServerId) (asked : Query) (value : ℤ) (proof : Option Verdict) → HaveHomes sc
+    → CoordinatorKeeps sc E (A c.txn) c → IsDoneMail sc E A c mail.letter.from done → IsRanAnswer sc c mail done at asked value proof
+    → RowKeeps sc E A c (coord.asks_in (with_ran c at done asked value proof) (phase.Stapling (coord.next_number done.query)))
+ran_staple_keeps sc E A c mail done at asked value proof homes h m k =
+    staple_keeps sc E A c done asked at value proof h (is_answer sc E A c mail done at asked value proof m k) (next_is sc c done.query asked homes k.asked_is)
 
 -- ---- timers
 
@@ -282,10 +310,10 @@ again_keeps sc E A c letters h undecided names first told =
     }
 
 -- a query that is sent again
-pub query_again_keeps : (sc : Scenario) (E : ℕ → ℕ) (A : Asking) (c : Coordinator) (number : ℕ) (at : ServerId) → CoordinatorKeeps sc E (A c.txn) c → c.phase ≡ phase.Querying number None
-    → CoordinatorEpochs sc E A c.txn (Some c) (coord.request c at (body.Query (coord.query_request sc c c.turn at number)) ∷ [])
-query_again_keeps sc E A c number at h e =
+pub query_again_keeps : (sc : Scenario) (E : ℕ → ℕ) (A : Asking) (c : Coordinator) (number : ℕ) (staple : Option Staple) (at : ServerId) → CoordinatorKeeps sc E (A c.txn) c → c.phase ≡ phase.Querying number staple
+    → CoordinatorEpochs sc E A c.txn (Some c) (coord.request c at (body.Query (coord.query_request sc c c.turn at number staple)) ∷ [])
+query_again_keeps sc E A c number staple at h e =
     let undecided : is_undecided c.phase ≡ true = ap is_undecided e in
-    let ran : is_some (kept_epoch c at) ≡ has_run_at sc c.txn (phase.Querying number None) at = (h.undecided undecided).ran at ∙ ap (λ (p : Phase). has_run_at sc c.txn p at) e in
-    again_keeps sc E A c (coord.request c at (body.Query (coord.query_request sc c c.turn at number)) ∷ []) h undecided (names_told c at (kept_epoch c at) refl, tt)
-    (none_or_some (kept_epoch c at) (has_run_at sc c.txn (phase.Querying number None) at) ran, tt) (tt, tt)
+    let ran : is_some (kept_epoch c at) ≡ has_run_at sc c.txn (phase.Querying number staple) at = (h.undecided undecided).ran at ∙ ap (λ (p : Phase). has_run_at sc c.txn p at) e in
+    again_keeps sc E A c (coord.request c at (body.Query (coord.query_request sc c c.turn at number staple)) ∷ []) h undecided (names_told c at (kept_epoch c at) refl, tt)
+    (none_or_some (kept_epoch c at) (has_run_at sc c.txn (phase.Querying number staple) at) ran, tt) (tt, tt)

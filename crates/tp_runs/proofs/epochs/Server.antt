@@ -206,26 +206,26 @@ run_made sc A s kept mail q query entry value h first m k =
           n.asked ∙ ap Some (same_named q.epoch n.named entry.epoch n.epoch_is further.same_epoch);
     }) k.place
 
-runs_made : (sc : Scenario) (A : Asking) (s : Server) (kept : List Record) (q : QueryRequest) (query : Query) (entry : Entry) (deed : Deed) → ServerMade sc A s.server s kept → IsRunMade sc A s q entry
-    → RowEpochs sc A s kept (server.completes s q query entry deed)
-runs_made sc A s kept q query entry deed h r =
-    let answer : DoneMade sc A s.server s.epoch (server.done_reply q entry.epoch deed) = record { past = r.made.past; asked = λ ran later. r.asked later } in
+runs_made : (sc : Scenario) (A : Asking) (s : Server) (kept : List Record) (q : QueryRequest) (query : Query) (entry : Entry) (deed : Deed) (proof : Option Verdict) → ServerMade sc A s.server s kept → IsRunMade sc A s q entry
+    → RowEpochs sc A s kept (server.completes s q query entry deed proof)
+runs_made sc A s kept q query entry deed proof h r =
+    let answer : DoneMade sc A s.server s.epoch (server.reply_of q entry.epoch (server.ran_as deed proof)) = record { past = r.made.past; asked = λ ran later. r.asked later } in
     record {
       made = record {
         epoch_is = h.epoch_is;
-        entries = placed_set (λ (n : ℕ) (found : Entry). EntryMade sc A s.server s.epoch found) s.entries q.txn.0 (server.entry_after q entry deed) h.entries
+        entries = placed_set (λ (n : ℕ) (found : Entry). EntryMade sc A s.server s.epoch found) s.entries q.txn.0 (server.entry_after q entry deed proof) h.entries
             (record {
               past = r.made.past;
               present = r.made.present;
               waiting = r.made.waiting;
-              answers = each_append (DoneMade sc A s.server s.epoch) entry.answers (server.done_reply q entry.epoch deed ∷ []) r.made.answers (answer, tt);
+              answers = each_append (DoneMade sc A s.server s.epoch) entry.answers (server.reply_of q entry.epoch (server.ran_as deed proof) ∷ []) r.made.answers (answer, tt);
             });
       };
       forces = tt;
       replies = ((refl, record { past = omega (arith, answer.past, h.epoch_is); asked = answer.asked }), tt);
     }
 
--- the entry at which a query asks waits, or answers that an older transaction stands in the way
+-- the entry at which a query asks changes
 entry_made : (sc : Scenario) (A : Asking) (s : Server) (kept : List Record) (txn : TxnId) (entry : Entry) (letters : List Letter) → ServerMade sc A s.server s kept → EntryMade sc A s.server s.epoch entry
     → Each (λ (letter : Letter). ReplyMade sc A s.server (epoch_in kept) letter.from letter.body) letters → RowEpochs sc A s kept (sends (server.with_entry s txn (Some entry)) letters)
 entry_made sc A s kept txn entry letters h made replies =
@@ -234,6 +234,15 @@ entry_made sc A s kept txn entry letters h made replies =
       forces = tt;
       replies = replies;
     }
+
+-- what a query that does not run is answered is kept and given
+denies_made : (sc : Scenario) (A : Asking) (s : Server) (kept : List Record) (q : QueryRequest) (entry : Entry) (given : Answer) → ServerMade sc A s.server s kept → IsRunMade sc A s q entry
+    → RowEpochs sc A s kept (server.answers_with s q entry given)
+denies_made sc A s kept q entry given h r =
+    let answer : DoneMade sc A s.server s.epoch (server.reply_of q entry.epoch given) = record { past = r.made.past; asked = λ stands later. r.asked later } in
+    entry_made sc A s kept q.txn (server.with_answer q entry given) _ h
+    (record { past = r.made.past; present = r.made.present; waiting = r.made.waiting; answers = each_more (DoneMade sc A s.server s.epoch) entry.answers _ r.made.answers answer })
+    ((refl, record { past = omega (arith, answer.past, h.epoch_is); asked = answer.asked }), tt)
 
 -- the epoch that a query names which waits is the entry's
 waits_named : (sc : Scenario) (A : Asking) (s : Server) (mail : Mail) (q : QueryRequest) (query : Query) (entry : Entry) (value : ℤ) → IfSome (option_map (naming q.txn) q.epoch) (IsAsked A (actor.Server s.server))
@@ -258,19 +267,39 @@ waited_asked sc A at epoch q h later = named q.epoch (h.first ∙ later) h.named
     named None none k = absurd (cc)
     named (Some n) none k = k.0 ∙ ap (λ (m : ℕ). Some m) k.1
 
--- what waited runs, after what was done before
-resumes_made : (sc : Scenario) (A : Asking) (s : Server) (kept : List Record) (effect : Effect Server) (grant : Grant) (q : QueryRequest) (query : Query) (entry : Entry) (value : ℤ) → IsResumed sc s.server effect.state grant q query entry value
-    → RowEpochs sc A s kept effect → RowEpochs sc A s kept (server.followed_by effect (resuming effect.state q query entry value))
-resumes_made sc A s kept effect grant q query entry value k h =
-    let now = log_with kept effect.reaction.append in
-    let made : ServerMade sc A effect.state.server effect.state now = subst (λ (at : ServerId). ServerMade sc A at effect.state now) (sym k.server_is) h.made in
-    let old : EntryMade sc A effect.state.server effect.state.epoch entry = made.entries q.txn.0 entry k.found in
-    let waited : WaitsMade sc A effect.state.server entry.epoch q = subst (λ (w : Option QueryRequest). IfSome w (WaitsMade sc A effect.state.server entry.epoch)) k.waiting_is old.waiting in
-    let ran = runs_made sc A effect.state now q query (unwaiting entry) (deed_of q.query query value) made
-    (record { made = record { past = old.past; present = old.present; waiting = tt; answers = old.answers }; asked = waited_asked sc A effect.state.server entry.epoch q waited }) in
-    let own : ServerEpochs sc A s.server now (Some (resuming effect.state q query entry value).state) None (resuming effect.state q query entry value).reaction.letters =
-    subst (λ (at : ServerId). ServerEpochs sc A at now (Some (resuming effect.state q query entry value).state) None (resuming effect.state q query entry value).reaction.letters) k.server_is ran in
-    record { made = own.made; forces = h.forces; replies = each_append (λ (letter : Letter). ReplyMade sc A s.server (epoch_in now) letter.from letter.body) effect.reaction.letters _ h.replies own.replies }
+-- the entry of what waited is made as that of a query which runs
+resumed_made : (sc : Scenario) (A : Asking) (at : ServerId) (now : List Record) (was : Server) (grant : Grant) (q : QueryRequest) (query : Query) (entry : Entry) (value : ℤ) → IsResumed sc at was grant q query entry value
+    → ServerMade sc A was.server was now → IsRunMade sc A was q (unwaiting entry)
+resumed_made sc A at now was grant q query entry value k made =
+    let old : EntryMade sc A was.server was.epoch entry = made.entries q.txn.0 entry k.found in
+    let waited : WaitsMade sc A was.server entry.epoch q = subst (λ (w : Option QueryRequest). IfSome w (WaitsMade sc A was.server entry.epoch)) k.waiting_is old.waiting in
+    record { made = record { past = old.past; present = old.present; waiting = tt; answers = old.answers }; asked = waited_asked sc A was.server entry.epoch q waited }
+
+-- what waited goes on, after what was done before
+goes_on_made : (sc : Scenario) (A : Asking) (s : Server) (kept : List Record) (effect : Effect Server) (now : Server) (letters : List Letter) → effect.state.server ≡ s.server → RowEpochs sc A s kept effect
+    → (ServerMade sc A effect.state.server effect.state (log_with kept effect.reaction.append) → RowEpochs sc A effect.state (log_with kept effect.reaction.append) (sends now letters))
+    → RowEpochs sc A s kept (server.followed_by effect (sends now letters))
+goes_on_made sc A s kept effect now letters server_is h further =
+    let log = log_with kept effect.reaction.append in
+    let made : ServerMade sc A effect.state.server effect.state log = subst (λ (at : ServerId). ServerMade sc A at effect.state log) (sym server_is) h.made in
+    let own : ServerEpochs sc A s.server log (Some now) None letters = subst (λ (at : ServerId). ServerEpochs sc A at log (Some now) None letters) server_is (further made) in
+    record { made = own.made; forces = h.forces; replies = each_append (λ (letter : Letter). ReplyMade sc A s.server (epoch_in log) letter.from letter.body) effect.reaction.letters _ h.replies own.replies }
+
+-- it runs
+resumes_made : (sc : Scenario) (A : Asking) (s : Server) (kept : List Record) (effect : Effect Server) (grant : Grant) (q : QueryRequest) (query : Query) (entry : Entry) (value : ℤ) (proof : Option Verdict)
+    → IsResumed sc s.server effect.state grant q query entry value → RowEpochs sc A s kept effect → RowEpochs sc A s kept (server.followed_by effect (resuming effect.state q query entry value proof))
+resumes_made sc A s kept effect grant q query entry value proof k h =
+    let log = log_with kept effect.reaction.append in
+    goes_on_made sc A s kept effect (resuming effect.state q query entry value proof).state _ k.server_is h
+    (λ made. runs_made sc A effect.state log q query (unwaiting entry) (deed_of q.query query value) proof made (resumed_made sc A s.server log effect.state grant q query entry value k made))
+
+-- or it does not run
+resumes_unrun : (sc : Scenario) (A : Asking) (s : Server) (kept : List Record) (effect : Effect Server) (grant : Grant) (q : QueryRequest) (query : Query) (entry : Entry) (value : ℤ) (given : Answer)
+    → IsResumed sc s.server effect.state grant q query entry value → RowEpochs sc A s kept effect → RowEpochs sc A s kept (server.followed_by effect (server.answers_with effect.state q (unwaiting entry) given))
+resumes_unrun sc A s kept effect grant q query entry value given k h =
+    let log = log_with kept effect.reaction.append in
+    goes_on_made sc A s kept effect (server.answers_with effect.state q (unwaiting entry) given).state _ k.server_is h
+    (λ made. denies_made sc A effect.state log q (unwaiting entry) given made (resumed_made sc A s.server log effect.state grant q query entry value k made))
 
 -- an answer that is given again, or that the server restarted
 answers_made : (sc : Scenario) (A : Asking) (s : Server) (kept : List Record) (q : QueryRequest) (given : DoneReply) → ServerMade sc A s.server s kept → DoneMade sc A s.server s.epoch given
@@ -314,25 +343,14 @@ server_row_made sc A s kept mail waits h first m =
     (record {
       relocked = λ effect locks k. record { made = record { epoch_is = k.made.epoch_is; entries = k.made.entries }; forces = k.forces; replies = k.replies };
       ignored = ignores_made sc A s kept h;
-      ran = λ q query entry value k.
-          let is_first : is_none q.epoch ≡ is_first_at sc s.server q.txn q.query = subst (QueryFirst sc (actor.Server s.server)) k.said_is first in
-          let asked : IfSome (option_map (naming q.txn) q.epoch) (IsAsked A (actor.Server s.server)) = subst (λ (said : Body). IfSome (naming_of said) (IsAsked A (actor.Server s.server))) k.said_is m in
-          runs_made sc A s kept q query entry (deed_of q.query query value) h (run_made sc A s kept mail q query entry value h is_first asked k);
+      ran = λ q query entry value proof k r. runs_made sc A s kept q query entry (deed_of q.query query value) proof h (asking q query entry value k);
+      denied = λ q query entry value verdict k d. denies_made sc A s kept q entry (answer.Denied verdict) h (asking q query entry value k);
       waited = λ q query entry value k.
-          let is_first : is_none q.epoch ≡ is_first_at sc s.server q.txn q.query = subst (QueryFirst sc (actor.Server s.server)) k.said_is first in
-          let asked : IfSome (option_map (naming q.txn) q.epoch) (IsAsked A (actor.Server s.server)) = subst (λ (said : Body). IfSome (naming_of said) (IsAsked A (actor.Server s.server))) k.said_is m in
-          let r = run_made sc A s kept mail q query entry value h is_first asked k in
+          let r = asking q query entry value k in
           entry_made sc A s kept q.txn (record entry { waiting = Some q }) [] h
-          (record { past = r.made.past; present = r.made.present; waiting = record { first = is_first; named = waits_named sc A s mail q query entry value asked k }; answers = r.made.answers }) tt;
-      died = λ q query entry value other k dying.
-          let is_first : is_none q.epoch ≡ is_first_at sc s.server q.txn q.query = subst (QueryFirst sc (actor.Server s.server)) k.said_is first in
-          let asked : IfSome (option_map (naming q.txn) q.epoch) (IsAsked A (actor.Server s.server)) = subst (λ (said : Body). IfSome (naming_of said) (IsAsked A (actor.Server s.server))) k.said_is m in
-          let r = run_made sc A s kept mail q query entry value h is_first asked k in
-          let answer : DoneMade sc A s.server s.epoch (server.died_reply q entry.epoch other) = record { past = r.made.past; asked = λ died later. r.asked later } in
-          entry_made sc A s kept q.txn _ _ h
-          (record { past = r.made.past; present = r.made.present; waiting = r.made.waiting; answers = each_more (DoneMade sc A s.server s.epoch) entry.answers _ r.made.answers answer })
-          ((refl, record { past = omega (arith, answer.past, h.epoch_is); asked = answer.asked }), tt);
-      restarted = λ q k. answers_made sc A s kept q (server.restarted_reply q s.epoch) h (record { past = omega arith; asked = λ ran later. absurd (cc) });
+          (record { past = r.made.past; present = r.made.present; waiting = record { first = first_is q k.said_is; named = waits_named sc A s mail q query entry value (asked_is q k.said_is) k }; answers = r.made.answers }) tt;
+      died = λ q query entry value other k dying. denies_made sc A s kept q entry (answer.Died other) h (asking q query entry value k);
+      restarted = λ q k. answers_made sc A s kept q (server.reply_of q s.epoch answer.Restarted) h (record { past = omega arith; asked = λ ran later. absurd (cc) });
       answered = λ q entry given k.
           answers_made sc A s kept q given h
           (each_found (DoneMade sc A s.server s.epoch) (λ (d : DoneReply). d.query == q.query) entry.answers given (h.entries q.txn.0 entry k.found).answers k.given_is);
@@ -346,5 +364,15 @@ server_row_made sc A s kept mail waits h first m =
       settled = λ d k. ends_made sc A s kept (server.settled_as d) (server.ack_letter s d.txn) h tt;
       acknowledged = λ d settled k. record { made = h; forces = tt; replies = (tt, tt) };
       pushed = λ push k. learns_made sc A s kept push h;
-      resumed = λ effect grant q query entry value k now. resumes_made sc A s kept effect grant q query entry value k now;
+      resumed = λ effect grant q query entry value proof k r now. resumes_made sc A s kept effect grant q query entry value proof k now;
+      resumed_denied = λ effect grant q query entry value verdict k d now. resumes_unrun sc A s kept effect grant q query entry value (answer.Denied verdict) k now;
     })
+  where
+    first_is : (q : QueryRequest) → mail.letter.body ≡ body.Query q → is_none q.epoch ≡ is_first_at sc s.server q.txn q.query
+    first_is q said = subst (QueryFirst sc (actor.Server s.server)) said first
+
+    asked_is : (q : QueryRequest) → mail.letter.body ≡ body.Query q → IfSome (option_map (naming q.txn) q.epoch) (IsAsked A (actor.Server s.server))
+    asked_is q said = subst (λ (heard : Body). IfSome (naming_of heard) (IsAsked A (actor.Server s.server))) said m
+
+    asking : (q : QueryRequest) (query : Query) (entry : Entry) (value : ℤ) → IsAsking sc s mail q query entry value → IsRunMade sc A s q entry
+    asking q query entry value k = run_made sc A s kept mail q query entry value h (first_is q k.said_is) (asked_is q k.said_is) k

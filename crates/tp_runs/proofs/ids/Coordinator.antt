@@ -1,8 +1,10 @@
 -- The coordinator's rows keep its state sound, force a sound record, and send sound letters.
 use Rattle.std.specs.List.{find}
 use Rattle.std.specs.Option.{option_map_or}
-use Rattle.std.proofs.Common.{IfSome, List, None, Option, Some, [], ap, false, filter, is_some, map, option_and_then, option_map, refl, slice_get, subst, sym, true, unwrap_or, ℕ, ℤ, ◌∷◌, ◌≡◌}
-use Rattle.std.proofs.lemmas.Option.{same_Some}
+use Rattle.std.proofs.Common.{IfSome, List, None, Option, Some, [], ap, arith, filter, is_some, length, map, nat_lt, option_and_then, option_map, option_to_list, refl, slice_get, subst, sym, true, unwrap_or, ℕ, ℤ, ◌++◌, ◌<◌, ◌∷◌, ◌≡◌, ◌≤◌}
+use Rattle.std.proofs.lemmas.Bool.{and_parts, ltb-true}
+use Rattle.std.proofs.lemmas.List.{length-append}
+use Rattle.std.proofs.lemmas.Option.{same_Some, slice_get_within}
 use Rattle.tp_types.specs.Effect.{Effect, ignores, sends}
 use Rattle.tp_model.specs.Ids.{same_server}
 use Rattle.tp_model.specs.Queries.{item_of, query_at}
@@ -13,33 +15,36 @@ use Rattle.tp_model.specs.Words.cause
 use Rattle.tp_model.specs.Words.no
 use Rattle.tp_model.specs.Words.outcome
 use Rattle.tp_model.specs.Words.query
-use Rattle.tp_model.specs.Words.{Actor, AdminId, Body, Cause, DoneReply, Instance, Item, Mail, Outcome, Query, Scenario, ServerId, Staple, Transaction, TxnId, Verdict, Version, VoteReply}
-use Rattle.tp_runs.proofs.basics.Homes.{IsHome, home_is}
+use Rattle.tp_model.specs.Words.{Actor, AdminId, Answer, Body, Cause, DoneReply, Instance, Item, Mail, Met, Outcome, Query, Reading, Scenario, ServerId, Staple, TellReply, Transaction, TxnId, Verdict, Version, VoteReply}
+use Rattle.tp_model.specs.Limits.{count_limit}
+use Rattle.tp_runs.proofs.basics.Homes.{IsHome, asked_there, begun_after, home_is, sent_unproved}
+use Rattle.tp_runs.proofs.basics.Levels.{global_of_all}
 use Rattle.tp_runs.proofs.basics.Ids.{same_txn_from}
-use Rattle.tp_types.proofs.EachLemmas.{by_cond, each_append, each_as, each_filter, each_flat_map, each_found, each_get, each_map, each_more, each_passing, some_if_not_none}
+use Rattle.tp_types.proofs.EachLemmas.{by_cond, each_append, each_as, each_filter, each_flat_map, each_found, each_get, each_map, each_more, each_passing, found_passes, some_if_not_none, some_value}
+use Rattle.tp_runs.proofs.ids.Server.{version_of}
 use Rattle.tp_runs.proofs.ids.Valid.{IsValid, IsValidItem}
+use Rattle.tp_scheme.specs.declared.moves.Move.TheVariants as move
 use Rattle.tp_scheme.specs.declared.moves.Point.TheVariants as point
-use Rattle.tp_coord.proofs.Rows.{AllTrue, ByLoss, ByOlder, ByProof, ByRefusal, ByRestart, Gained, HasVoted, IsAwaitedAnswer, IsEnded, IsNo, IsPassed, IsYes, QueryRan, coordinator_by, gains_instances, submit_by, timer_by, with_gained}
+use Rattle.tp_coord.proofs.Rows.{AllTrue, ByDenial, ByLoss, ByOlder, ByProof, ByReading, ByRefusal, ByRestart, ByRounds, ByVotes, Gained, HasVoted, IsAwaitedAnswer, IsEnded, IsJudged, IsNo, IsPassed, IsYes, QueryRan, coordinator_by, gains_deed, gains_instances, submit_by, timer_by, with_gained}
 use Rattle.tp_model.specs.Deeds.{deed_of}
-use Rattle.tp_runs.specs.Sound.{AreSoundVerdicts, AreWanted, IsActor, IsItemOf, IsRefusalOf, IsSoundAnswer, IsSoundBallot, IsSoundBody, IsSoundCause, IsSoundCoordinator, IsSoundCoordinatorRecord, IsSoundDeed, IsSoundInstance, IsSoundLetter, IsSoundPhase, IsSoundProof, IsSoundQuery, IsSoundMet, IsSoundRefusal, IsSoundRound, IsSoundStaple, IsSoundTarget, IsSoundVerdict, IsSoundWanted, IsVersion, ProvesEach, query_in}
-use Rattle.tp_scheme.specs.Moves.{proves_each}
+use Rattle.tp_runs.specs.Sound.{AreSoundVerdicts, AreVersions, AreWanted, IsActor, IsItemOf, IsQuery, IsRefusalOf, IsSoundAnswer, IsSoundBallot, IsSoundBody, IsSoundCause, IsSoundCoordinator, IsSoundCoordinatorRecord, IsSoundDeed, IsSoundInstance, IsSoundLetter, IsSoundMet, IsSoundPhase, IsSoundProof, IsSoundQuery, IsSoundRefusal, IsSoundRound, IsSoundStaple, IsSoundTarget, IsSoundVerdict, IsSoundWanted, IsVersion, IsVersionOf, ProvesEach, query_in}
 use Rattle.tp_types.specs.Each.{Each}
 use Rattle.tp_server.specs.Values.{HasValue}
-use Rattle.tp_machine.specs.Named.{IsServer}
+use Rattle.tp_machine.specs.Named.{IsAdmin, IsServer}
 use Rattle.tp_coord.specs.Sums.{asked_value, registers_after, sum_asked}
-use Rattle.tp_coord.specs.Row.{aborts, ask_letter, asks, commit_round, commits, coordinator_row, coordinator_with_age, decide_letters, denied_by, died_for, next_number, next_turn, prepare_letter, prepares, own_query, query_request, refused_by, repeats, request, sends_query, staple_of, submit_row, value_of, with_deed, without}
+use Rattle.tp_coord.specs.Row.{aborts, ask_letter, asks_in, commit_round, commits, coordinator_row, coordinator_with_age, decide_letters, denied_by, died_for, level_at, move_at, next_number, next_turn, own_query, place_of, prepare_letter, prepares, probe_letter, probes, query_request, reading_of, refused_by, repeats, request, sends_query, staple_of, submit_row, value_of, with_own, without}
 use Rattle.tp_coord.specs.State.{Coordinator}
 use Rattle.tp_coord.specs.declared.coordinator.Phase.TheVariants as phase
 use Rattle.tp_coord.specs.declared.coordinator.Phase.{Phase}
 use Rattle.tp_coord.specs.declared.coordinator.Span.TheVariants as span
-use Rattle.tp_runs.proofs.basics.Aims.{IsOf, aim_has}
+use Rattle.tp_runs.proofs.basics.Aims.{IsOf, aim_has, least_from}
 use Rattle.tp_runs.proofs.basics.Rounds.{each_by_query, each_missing, missing_in, updated_is}
 use Rattle.tp_round.proofs.AgainLemmas.{updated}
 use Rattle.tp_round.proofs.AgreedLemmas.{all_agree, false_is_least}
-use Rattle.tp_round.proofs.LevelLemmas.{view_for_each}
-use Rattle.tp_round.specs.Judge.{after_judgement, after_reply, aim_in, awaits, is_outdated, is_proved_by, judge, new_target, next_target, want_of, wants_of, with_reply}
+use Rattle.tp_round.proofs.MetLemmas.{spent_has_all_mets}
+use Rattle.tp_round.specs.Judge.{after_judgement, after_reply, aim_in, awaits, is_below, is_global_at, is_outdated, is_proved_by, judge, met_at, met_in, new_target, newest_in, next_target, version_number, want_of, wants_of, with_reply}
 use Rattle.tp_round.specs.Laws.{is_true}
-use Rattle.tp_round.specs.Replies.{by_query, proofs_in, verdicts_in}
+use Rattle.tp_round.specs.Replies.{by_query, least, proofs_in, verdicts_in}
 use Rattle.tp_round.specs.declared.round.Judged.TheVariants as judged
 use Rattle.tp_round.specs.declared.round.Round.{Round}
 use Rattle.tp_round.specs.declared.round.Target.{Target}
@@ -84,18 +89,6 @@ server_found sc asked server (Some item) valid e f =
     }
 server_found sc asked server None valid e f = absurd (cc)
 
--- no transaction is proved as it runs
-proves_none : (sc : Scenario) (txn : TxnId) (found : Option Transaction) → IsValid sc → slice_get sc.txns txn.0 ≡ found
-    → option_map (λ (declared : Transaction). proves_each declared.scheme) found ≡ Some true → ⊥
-proves_none sc txn (Some declared) valid f e =
-    let plain : proves_each declared.scheme ≡ false = each_get (λ (d : Transaction). proves_each d.scheme ≡ false) sc.txns txn.0 declared valid.deferred f in
-    let each : proves_each declared.scheme ≡ true = same_Some (proves_each declared.scheme) true e in
-    cc
-proves_none sc txn None valid f e = cc
-
-not_each : (sc : Scenario) (txn : TxnId) → IsValid sc → ProvesEach sc txn → ⊥
-not_each sc txn valid e = proves_none sc txn (slice_get sc.txns txn.0) valid refl e
-
 valued : (registers : List ℤ) (asked : Query) (found : Option Query) → found ≡ Some asked → HasValue asked (option_and_then (sum_asked registers) found)
 valued registers asked None e = absurd (cc)
 valued registers (query.Write item expr) (Some found) e = ap (λ (q : Query). is_some (sum_asked registers q)) (same_Some found (query.Write item expr) e)
@@ -109,12 +102,12 @@ has_value sc c number asked e = found (slice_get sc.txns c.txn.0) e
     found None f = absurd (cc)
     found (Some declared) f = valued (registers_after declared c.deeds) asked (query_at declared number) f
 
--- a query is asked in a turn at the server of its item
-query_sound : (sc : Scenario) (c : Coordinator) (turn number : ℕ) (server : ServerId) → IsValid sc → IsSoundCoordinator sc c → IsHome sc c number server
-    → IsSoundLetter sc (request c server (body.Query (query_request sc c turn server number)))
-query_sound sc c turn number server valid h k =
+-- a query is asked in a turn at the server of its item, with a staple where each is proved
+query_sound : (sc : Scenario) (c : Coordinator) (turn number : ℕ) (staple : Option Staple) (server : ServerId) → IsValid sc → IsSoundCoordinator sc c → IsHome sc c number server
+    → IfSome staple (IsSoundStaple sc) × (ProvesEach sc c.txn → is_some staple ≡ true) → IsSoundLetter sc (request c server (body.Query (query_request sc c turn server number staple)))
+query_sound sc c turn number staple server valid h k t =
     let at : IsServerOf sc k.asked server = server_found sc k.asked server (slice_get sc.items (item_of k.asked).0) valid refl k.server_is in
-    let asks_of : IsSoundQuery sc (actor.Server server) (query_request sc c turn server number) =
+    let asks_of : IsSoundQuery sc (actor.Server server) (query_request sc c turn server number staple) =
     record {
       txn = h.exists;
       asked = k.asked;
@@ -123,25 +116,42 @@ query_sound sc c turn number server valid h k =
       goes_to = refl;
       kept = at.kept;
       has_value = has_value sc c number k.asked k.asked_is;
-      stapled = λ each. absurd (not_each sc c.txn valid each);
-      staple = tt;
+      stapled = t.1;
+      staple = t.0;
       pin = tt;
     } in
     request_sound sc c server _ h at.exists asks_of
 
-sends_query_sound : (sc : Scenario) (c : Coordinator) (number : ℕ) (server : ServerId) → IsValid sc → IsSoundCoordinator sc c → IsHome sc c number server → IsSoundCoordinatorEffect sc c (sends_query sc c number server)
-sends_query_sound sc c number server valid h k =
+sends_query_sound : (sc : Scenario) (c : Coordinator) (number : ℕ) (staple : Option Staple) (server : ServerId) → IsValid sc → IsSoundCoordinator sc c → IsHome sc c number server
+    → IfSome staple (IsSoundStaple sc) × (ProvesEach sc c.txn → is_some staple ≡ true) → IsSoundCoordinatorEffect sc c (sends_query sc c number staple server)
+sends_query_sound sc c number staple server valid h k t =
     record {
       same_txn = refl;
-      state_is = moved_in_ids sc c (phase.Querying number None) (next_turn c) c.epochs h (record { asked = k.asked; asked_is = k.asked_is }, tt);
+      state_is = moved_in_ids sc c (phase.Querying number staple) (next_turn c) c.epochs h (record { asked = k.asked; asked_is = k.asked_is }, t.0, t.1);
       forces = tt;
-      sends_only = (query_sound sc c (next_turn c) number server valid h k, tt);
+      sends_only = (query_sound sc c (next_turn c) number staple server valid h k t, tt);
     }
+
+ask_sound : (sc : Scenario) (c : Coordinator) (turn : ℕ) → IsSoundCoordinator sc c → IsSoundLetter sc (ask_letter c turn)
+ask_sound sc c turn h = record { from_is_actor = h.exists; to_is_actor = tt; says = record { txn = h.exists; goes_to = refl }; refuses = tt }
+
+-- the authority is asked, for what is sound
+asks_in_sound : (sc : Scenario) (c : Coordinator) (next : Phase) → IsSoundCoordinator sc c → IsSoundPhase sc c.txn next → IsSoundCoordinatorEffect sc c (asks_in c next)
+asks_in_sound sc c next h n =
+    record { same_txn = refl; state_is = moved_in_ids sc c next (next_turn c) c.epochs h n; forces = tt; sends_only = (ask_sound sc c (next_turn c) h, tt) }
+
+-- where the authority is asked as a query begins, there is such a query
+query_begins : (sc : Scenario) (c : Coordinator) (number : ℕ) → 1 ≤ number → move_at sc c (point.Begun number) ≡ move.Ask → IsQuery sc c.txn number
+query_begins sc c number low e = let found = some_value (own_query sc c number) (asked_there sc c number low e) in record { asked = found.0; asked_is = found.1 }
 
 pub submit_row_sound : (sc : Scenario) (c : Coordinator) → IsValid sc → IsSoundCoordinator sc c → IsSoundCoordinatorEffect sc c (submit_row sc c)
 submit_row_sound sc c valid h =
     submit_by sc c (IsSoundCoordinatorEffect sc c)
-    (record { ignored = ignores_sound_in_coordinator sc c h; sent = λ server home. sends_query_sound sc c 1 server valid h (home_is sc c 1 server home) })
+    (record {
+      ignored = ignores_sound_in_coordinator sc c h;
+      sent = λ server begins home. sends_query_sound sc c 1 None server valid h (home_is sc c 1 server home) (tt, λ each. absurd (sent_unproved sc c 1 begins each));
+      asked = λ begins. asks_in_sound sc c (phase.Stapling 1) h (query_begins sc c 1 (omega arith) begins);
+    })
 
 -- the place of the submission changes nothing of this
 pub coordinator_with_age_sound : (sc : Scenario) (c : Coordinator) (place : ℕ) → IsSoundCoordinator sc c → IsSoundCoordinator sc (coordinator_with_age c place)
@@ -150,31 +160,31 @@ coordinator_with_age_sound sc c place h =
 
 -- ---- Done
 
-ask_sound : (sc : Scenario) (c : Coordinator) (turn : ℕ) → IsSoundCoordinator sc c → IsSoundLetter sc (ask_letter c turn)
-ask_sound sc c turn h = record { from_is_actor = h.exists; to_is_actor = tt; says = record { txn = h.exists; goes_to = refl }; refuses = tt }
-
-asks_sound : (sc : Scenario) (c : Coordinator) (round : Round) → IsSoundCoordinator sc c → IsSoundRound sc c.txn round → IsSoundCoordinatorEffect sc c (asks c span.Commit round)
-asks_sound sc c round h r =
-    record {
-      same_txn = refl;
-      state_is = moved_in_ids sc c (phase.Asking span.Commit round) (next_turn c) c.epochs h (tt, r);
-      forces = tt;
-      sends_only = (ask_sound sc c (next_turn c) h, tt);
-    }
-
 -- the first round, of servers that exist
 first_sound : (sc : Scenario) (txn : TxnId) (servers : List ServerId) → Each (IsServer sc) servers → Each (IsSoundTarget sc txn) (map new_target servers)
 first_sound sc txn servers h = each_map (IsServer sc) (IsSoundTarget sc txn) new_target (λ server exists. record { server = exists; reply = tt }) servers h
 
-with_deed_sound : (sc : Scenario) (c : Coordinator) (server : ServerId) (done : DoneReply) (asked : Query) (value : ℤ) → IsSoundCoordinator sc c
-    → query_in sc c.txn done.query ≡ Some asked → IsSoundCoordinator sc (with_deed c server done asked value)
-with_deed_sound sc c server done asked value h e =
+-- the levels of the first round: the master is read where one of them is global
+first_levels : (sc : Scenario) (c : Coordinator) (admin : AdminId) → is_global_at (commit_round sc c).levels admin ≡ true → (commit_round sc c).reads ≡ true
+first_levels sc c admin e = global_of_all (level_at sc c) admin e
+
+commit_round_sound : (sc : Scenario) (c : Coordinator) → IsSoundCoordinator sc c → IsSoundRound sc c.txn (commit_round sc c)
+commit_round_sound sc c h = record { levels = first_levels sc c; targets = first_sound sc c.txn c.servers h.servers; aim = tt; named = tt; mets = tt }
+
+-- instances with the proof of a query, if it has one
+own_sound : (sc : Scenario) (txn : TxnId) (instances : List Instance) (proof : Option Verdict) → Each (IsSoundInstance sc txn) instances → IfSome proof (IsSoundProof sc txn) → Each (IsSoundInstance sc txn) (with_own instances proof)
+own_sound sc txn instances None h p = h
+own_sound sc txn instances (Some verdict) h p = each_more (IsSoundInstance sc txn) instances _ h (p, tt)
+
+gains_deed_sound : (sc : Scenario) (c : Coordinator) (server : ServerId) (done : DoneReply) (asked : Query) (value : ℤ) (proof : Option Verdict) → IsSoundCoordinator sc c → query_in sc c.txn done.query ≡ Some asked
+    → IfSome proof (IsSoundProof sc c.txn) → IsSoundCoordinator sc (with_gained c (gains_deed c server done asked value proof))
+gains_deed_sound sc c server done asked value proof h e p =
     record {
       exists = h.exists;
       servers = h.servers;
       deeds = each_more (IsSoundDeed sc c.txn) c.deeds (deed_of done.query asked value) h.deeds (record { asked = asked; asked_is = e; item_is = refl; action_is = refl });
       gathered = h.gathered;
-      instances = h.instances;
+      instances = own_sound sc c.txn c.instances proof h.instances p;
       awaits = h.awaits;
     }
 
@@ -216,10 +226,10 @@ replies_sound sc txn targets h = each_flat_map (IsSoundTarget sc txn) (IsSoundVe
     of_reply (Some verdicts) k = k
 
 -- where all is true the verdicts are proofs
-proofs_sound : (sc : Scenario) (txn : TxnId) (round : Round) → judge round None ≡ judged.AllTrue → Each (IsSoundTarget sc txn) round.targets → Each (IsSoundProof sc txn) (by_query (proofs_in round.targets))
-proofs_sound sc txn round e h =
+proofs_sound : (sc : Scenario) (txn : TxnId) (round : Round) (reading : Option Reading) → judge round reading ≡ judged.AllTrue → Each (IsSoundTarget sc txn) round.targets → Each (IsSoundProof sc txn) (by_query (proofs_in round.targets))
+proofs_sound sc txn round reading e h =
     each_by_query (IsSoundProof sc txn) (proofs_in round.targets)
-    (each_passing (IsSoundVerdict sc txn) (IsSoundProof sc txn) is_true (λ verdict sound passes. record { sound = sound; has_rule = some_if_not_none verdict.rule passes }) (proofs_in round.targets) (all_agree round None e).all_true
+    (each_passing (IsSoundVerdict sc txn) (IsSoundProof sc txn) is_true (λ verdict sound passes. record { sound = sound; has_rule = some_if_not_none verdict.rule passes }) (proofs_in round.targets) (all_agree round reading e).all_true
     (replies_sound sc txn round.targets h))
 
 -- each of these servers is told the outcome
@@ -247,10 +257,10 @@ aborts_sound sc c why h caused =
     }
 
 -- a false verdict that is sound denies what exists
-denied_sound : (sc : Scenario) (txn : TxnId) (round : Round) (verdict : Verdict) → judge round None ≡ judged.False verdict → Each (IsSoundTarget sc txn) round.targets
+denied_sound : (sc : Scenario) (txn : TxnId) (round : Round) (reading : Option Reading) (verdict : Verdict) → judge round reading ≡ judged.False verdict → Each (IsSoundTarget sc txn) round.targets
     → IsSoundCause sc txn (cause.Denied (denied_by verdict))
-denied_sound sc txn round verdict e h =
-    let least = false_is_least round None verdict e in
+denied_sound sc txn round reading verdict e h =
+    let least = false_is_least round reading verdict e in
     let sound : IsSoundVerdict sc txn verdict = each_get (IsSoundVerdict sc txn) (proofs_in round.targets) least.place verdict (replies_sound sc txn round.targets h) least.there in
     record { query = sound.query; version = sound.version }
 
@@ -260,26 +270,78 @@ without_sound sc awaited server h = each_filter (IsServer sc) _ awaited h
 -- a round with a sound reply
 replied_sound : (sc : Scenario) (txn : TxnId) (round : Round) (server : ServerId) (verdicts : List Verdict) → IsSoundRound sc txn round → IsServer sc server → AreSoundVerdicts sc txn verdicts
     → IsSoundRound sc txn (after_reply round server verdicts)
-replied_sound sc txn round server verdicts r exists v = record { view = r.view; targets = with_sound round.targets r.targets; aim = r.aim; named = r.named; mets = r.mets }
+replied_sound sc txn round server verdicts r exists v = record { levels = r.levels; targets = with_sound round.targets r.targets; aim = r.aim; named = r.named; mets = r.mets }
   where
     with_sound : (targets : List Target) → Each (IsSoundTarget sc txn) targets → Each (IsSoundTarget sc txn) (with_reply targets server verdicts)
     with_sound [] h = tt
     with_sound (target ∷ targets) h =
         by_cond (Each (IsSoundTarget sc txn)) (awaits server target) (λ e. (record { server = exists; reply = v }, h.1)) (λ e. (h.0, with_sound targets h.1))
 
+probe_sound : (sc : Scenario) (c : Coordinator) (turn : ℕ) → IsSoundCoordinator sc c → IsSoundLetter sc (probe_letter c turn)
+probe_sound sc c turn h = record { from_is_actor = h.exists; to_is_actor = tt; says = record { txn = h.exists; goes_to = refl }; refuses = tt }
+
 counted_sound : (sc : Scenario) (c : Coordinator) (round : Round) (staple : Staple) → IsSoundCoordinator sc c → IsSoundRound sc c.txn round → IsSoundStaple sc staple
     → IsSoundCoordinatorEffect sc c (sends (record c { phase = phase.Checking span.Commit round staple }) [])
 counted_sound sc c round staple h r t =
     record { same_txn = refl; state_is = moved_in_ids sc c (phase.Checking span.Commit round staple) c.turn c.epochs h (tt, r, t); forces = tt; sends_only = tt }
 
+probes_sound : (sc : Scenario) (c : Coordinator) (next : Phase) → IsSoundCoordinator sc c → IsSoundPhase sc c.txn next → IsSoundCoordinatorEffect sc c (probes c next)
+probes_sound sc c next h n =
+    record { same_txn = refl; state_is = moved_in_ids sc c next (next_turn c) c.epochs h n; forces = tt; sends_only = (probe_sound sc c (next_turn c) h, tt) }
+
 -- ---- an update
 
--- what is aimed at exists, as the versions of proofs do
-aim_sound : (sc : Scenario) (txn : TxnId) (round : Round) → IsSoundRound sc txn round → AreWanted sc (aim_in round None)
-aim_sound sc txn round r =
-    each_as (IsOf (λ (admin : AdminId) (version : ℕ). IsVersion sc admin (record { 0 = version }))) (λ (wanted : AdminId × Version). IsVersion sc wanted.0 wanted.1) (λ wanted k. k) (aim_in round None)
-    (aim_has (λ (admin : AdminId) (version : ℕ). IsVersion sc admin (record { 0 = version })) round.levels (proofs_in round.targets) r.view
-    (each_as (IsSoundVerdict sc txn) _ (λ verdict k. k.version) (proofs_in round.targets) (replies_sound sc txn round.targets r.targets)))
+-- a round that is judged: where an administrator's level is global, a version of it that exists was read
+record IsSoundJudged (sc : Scenario) (txn : TxnId) (round : Round) (reading : Option Reading) : Type 0 where
+  round_is : IsSoundRound sc txn round
+  newest : (admin : AdminId) → IsAdmin sc admin → is_global_at round.levels admin ≡ true → IsVersion sc admin (record { 0 = newest_in reading admin })
+
+read_is : (found : Option Version) → (unwrap_or found (record { 0 = 0 })).0 ≡ option_map_or version_number found 0
+read_is None = refl
+read_is (Some version) = refl
+
+read_version : (sc : Scenario) (reading : Reading) (admin : AdminId) → AreVersions sc reading.newest → IsAdmin sc admin → IsVersion sc admin (record { 0 = newest_in (Some reading) admin })
+read_version sc reading admin read within =
+    let found = version_of sc.admins reading.newest admin.0 (record { 0 = 0 }) read within in
+    record { declared = found.0; declared_is = found.1; in_library = subst (λ (n : ℕ). IsVersionOf found.0 (record { 0 = n })) (read_is (slice_get reading.newest admin.0)) found.2 }
+
+-- what is aimed at exists, as the versions of proofs do, and what was read
+aim_sound : (sc : Scenario) (txn : TxnId) (round : Round) (reading : Option Reading) → IsSoundJudged sc txn round reading → AreWanted sc (aim_in round reading)
+aim_sound sc txn round reading j =
+    let sound = replies_sound sc txn round.targets j.round_is.targets in
+    each_as (IsOf (λ (admin : AdminId) (version : ℕ). IsVersion sc admin (record { 0 = version }))) (λ (wanted : AdminId × Version). IsVersion sc wanted.0 wanted.1) (λ wanted k. k) (aim_in round reading)
+    (aim_has (λ (admin : AdminId) (version : ℕ). IsVersion sc admin (record { 0 = version })) round.levels reading (proofs_in round.targets)
+    (each_as (IsSoundVerdict sc txn) _ (λ verdict k. j.newest verdict.admin (slice_get_within sc.admins verdict.admin.0 k.version.declared k.version.declared_is)) (proofs_in round.targets) sound)
+    (each_as (IsSoundVerdict sc txn) _ (λ verdict k. k.version) (proofs_in round.targets) sound))
+
+-- what is met exists: it is aimed at, and is above what was used
+met_sound : (sc : Scenario) (txn : TxnId) (round : Round) (reading : Option Reading) → IsSoundJudged sc txn round reading → IfSome (met_in round reading) (IsSoundMet sc)
+met_sound sc txn round None j = tt
+met_sound sc txn round (Some reading) j = of_found (find (is_below round.levels proofs) (aim_in round (Some reading))) refl
+  where
+    proofs : List Verdict
+    proofs = proofs_in round.targets
+
+    of_found : (found : Option (AdminId × Version)) → find (is_below round.levels proofs) (aim_in round (Some reading)) ≡ found → IfSome (option_map (met_at reading proofs) found) (IsSoundMet sc)
+    of_found None e = tt
+    of_found (Some aimed) e =
+        let newest : IsVersion sc aimed.0 aimed.1 = each_found (λ (wanted : AdminId × Version). IsVersion sc wanted.0 wanted.1) (is_below round.levels proofs) (aim_in round (Some reading)) aimed (aim_sound sc txn round (Some reading) j) e in
+        let below : least aimed.0 proofs < aimed.1.0 =
+        ltb-true (least aimed.0 proofs) aimed.1.0 (and_parts (is_global_at round.levels aimed.0) (nat_lt (least aimed.0 proofs) aimed.1.0) (found_passes (is_below round.levels proofs) (aim_in round (Some reading)) aimed e)).1 in
+        let low : 1 ≤ least aimed.0 proofs =
+        least_from aimed.0 proofs count_limit (omega arith) (each_as (IsSoundVerdict sc txn) (λ (verdict : Verdict). 1 ≤ verdict.version.0) (λ verdict k. k.version.in_library.0) proofs (replies_sound sc txn round.targets j.round_is.targets)) in
+        let high : aimed.1.0 ≤ length newest.declared.library = newest.in_library.1 in
+        record { used = record { declared = newest.declared; declared_is = newest.declared_is; in_library = (low, omega (arith, below, high)) }; newest = newest }
+
+-- what is spent is what each round met
+spent_sound : (sc : Scenario) (txn : TxnId) (round : Round) (reading : Option Reading) (mets : List Met) → judge round reading ≡ judged.Spent mets → IsSoundJudged sc txn round reading → IsSoundCause sc txn (cause.Rounds mets)
+spent_sound sc txn round reading mets e j =
+    let all = spent_has_all_mets round reading mets e in
+    let met : IsSoundMet sc all.met = subst (λ (found : Option Met). IfSome found (IsSoundMet sc)) all.is_met (met_sound sc txn round reading j) in
+    record {
+      has_member = subst (λ (ms : List Met). 1 ≤ length ms) (sym all.all) (omega (arith, length-append round.mets (all.met ∷ [])));
+      each = subst (Each (IsSoundMet sc)) (sym all.all) (each_more (IsSoundMet sc) round.mets all.met j.round_is.mets met);
+    }
 
 renewed_sound : (sc : Scenario) (txn : TxnId) (aim : List (AdminId × Version)) (target : Target) → IsSoundTarget sc txn target → IsSoundTarget sc txn (next_target aim target)
 renewed_sound sc txn aim target h = by_cond (IsSoundTarget sc txn) (is_outdated aim target) (λ e. record { server = h.server; reply = tt }) (λ e. h)
@@ -291,18 +353,24 @@ named_sound sc txn aim targets a h =
     (λ target k. record { server = k.server; want = each_filter (λ (wanted : AdminId × Version). IsVersion sc wanted.0 wanted.1) (is_proved_by target) aim a })
     (filter (is_outdated aim) targets) (each_filter (IsSoundTarget sc txn) (is_outdated aim) targets h)
 
+mets_sound : (sc : Scenario) (mets : List Met) (met : Option Met) → Each (IsSoundMet sc) mets → IfSome met (IsSoundMet sc) → Each (IsSoundMet sc) (mets ++ option_to_list met)
+mets_sound sc mets None h m = each_append (IsSoundMet sc) mets [] h tt
+mets_sound sc mets (Some met) h m = each_more (IsSoundMet sc) mets met h m
+
 -- the next round after an update
-next_sound : (sc : Scenario) (txn : TxnId) (round : Round) (named : List Wanted) → judge round None ≡ judged.Update named → IsSoundRound sc txn round → IsSoundRound sc txn (after_judgement round None)
-next_sound sc txn round named e r =
-    let aim = aim_in round None in
-    let aimed : AreWanted sc aim = aim_sound sc txn round r in
-    subst (IsSoundRound sc txn) (sym (updated_is round named e))
+next_sound : (sc : Scenario) (txn : TxnId) (round : Round) (reading : Option Reading) (named : List Wanted) → judge round reading ≡ judged.Update named → IsSoundJudged sc txn round reading
+    → IsSoundRound sc txn (after_judgement round reading)
+next_sound sc txn round reading named e j =
+    let r = j.round_is in
+    let aim = aim_in round reading in
+    let aimed : AreWanted sc aim = aim_sound sc txn round reading j in
+    subst (IsSoundRound sc txn) (sym (updated_is round reading named e))
     (record {
-      view = r.view;
+      levels = r.levels;
       targets = each_map (IsSoundTarget sc txn) (IsSoundTarget sc txn) (next_target aim) (λ target k. renewed_sound sc txn aim target k) round.targets r.targets;
       aim = aimed;
-      named = subst (Each (IsSoundWanted sc)) (sym (updated round None named e).is_named) (named_sound sc txn aim round.targets aimed r.targets);
-      mets = each_append (IsSoundMet sc) round.mets [] r.mets tt;
+      named = subst (Each (IsSoundWanted sc)) (sym (updated round reading named e).is_named) (named_sound sc txn aim round.targets aimed r.targets);
+      mets = mets_sound sc round.mets (met_in round reading) r.mets (met_sound sc txn round reading j);
     })
 
 -- ---- Ack
@@ -336,13 +404,20 @@ no_sound sc c mail reply round staple server number value r m k =
     let own : IsRefusalOf sc server c.txn reply.vote = subst (λ (txn : TxnId). IsRefusalOf sc server txn reply.vote) (same_txn_from c.txn reply.txn said.goes_to) refusal in
     record { query = subst (IsRefusalOf sc server c.txn) k.vote_is own }
 
+-- an awaited answer
+given_sound : (sc : Scenario) (c : Coordinator) (mail : Mail) (done : DoneReply) (server : ServerId) (asked : Query) (given : Answer) → IsSoundBody sc (actor.Coordinator c.txn) mail.letter.body
+    → IsAwaitedAnswer sc c mail done server asked given → IsSoundAnswer sc c.txn given
+given_sound sc c mail done server asked given m k =
+    let said = subst (IsSoundBody sc (actor.Coordinator c.txn)) k.said_is m in
+    let own : IsSoundAnswer sc c.txn done.answer = subst (λ (txn : TxnId). IsSoundAnswer sc txn done.answer) (same_txn_from c.txn done.txn said.goes_to) said.answer_is_sound in
+    subst (IsSoundAnswer sc c.txn) k.answer_is own
+
 -- the reason of an awaited answer that an older transaction stood in the way
 died_sound : (sc : Scenario) (c : Coordinator) (mail : Mail) (done : DoneReply) (server : ServerId) (asked : Query) (other : TxnId) → IsValid sc → IsSoundBody sc (actor.Coordinator c.txn) mail.letter.body
     → IsAwaitedAnswer sc c mail done server asked (answer.Died other) → IsSoundCause sc c.txn (cause.Died (died_for server done other mail.sent))
 died_sound sc c mail done server asked other valid m k =
-    let said = subst (IsSoundBody sc (actor.Coordinator c.txn)) k.said_is m in
     let at : IsServerOf sc asked server = server_found sc asked server (slice_get sc.items (item_of asked).0) valid refl k.server_is in
-    record { query = record { asked = asked; asked_is = k.asked_is; kept = at.kept }; other = subst (IsSoundAnswer sc done.txn) k.answer_is said.answer_is_sound }
+    record { query = record { asked = asked; asked_is = k.asked_is; kept = at.kept }; other = given_sound sc c mail done server asked (answer.Died other) m k }
 
 pub coordinator_row_sound : (sc : Scenario) (c : Coordinator) (mail : Mail) → IsValid sc → IsSoundCoordinator sc c → IsActor sc mail.letter.from
     → IsSoundRefusal sc mail.letter.from mail.letter.body → IsSoundBody sc (actor.Coordinator c.txn) mail.letter.body → IsSoundCoordinatorEffect sc c (coordinator_row sc c mail)
@@ -350,22 +425,25 @@ coordinator_row_sound sc c mail valid h a r m =
     coordinator_by sc c mail (IsSoundCoordinatorEffect sc c)
     (record {
       ignored = ignores_sound_in_coordinator sc c h;
+      stapled = λ tell query home k home_of_it. sends_query_sound sc c query (Some (staple_of tell mail.sent)) home valid h (home_is sc c query home home_of_it) (staple_sound tell k.said_is, λ each. refl);
       sends_query = λ query now next passed moves home.
           let further : IsHome sc c (next_number query) next = home_is sc c (next_number query) next home in
-          let on = sends_query_sound sc (with_gained c now) (next_number query) next valid (ran_sound query now passed)
-          (record { asked = further.asked; asked_is = further.asked_is; server_is = further.server_is }) in
+          let on = sends_query_sound sc (with_gained c now) (next_number query) None next valid (ran_sound query now passed)
+          (record { asked = further.asked; asked_is = further.asked_is; server_is = further.server_is }) (tt, λ each. absurd (sent_unproved sc c (next_number query) (begun_after sc c query move.SendQuery refl moves) each)) in
+          record { same_txn = refl; state_is = on.state_is; forces = tt; sends_only = on.sends_only };
+      asks_staple = λ query now passed moves.
+          let on = asks_in_sound sc (with_gained c now) (phase.Stapling (next_number query)) (ran_sound query now passed)
+          (query_begins sc c (next_number query) (next_low query) (begun_after sc c query move.Ask refl moves)) in
           record { same_txn = refl; state_is = on.state_is; forces = tt; sends_only = on.sends_only };
       commit_rounds = λ query now passed moves.
-          let on = asks_sound sc (with_gained c now) (commit_round c) (ran_sound query now passed)
-          (record { view = view_for_each; targets = first_sound sc c.txn c.servers h.servers; aim = tt; named = tt; mets = tt }) in
+          let on = asks_in_sound sc (with_gained c now) (phase.Asking span.Commit (commit_round sc c)) (ran_sound query now passed) (tt, commit_round_sound sc c h) in
           record { same_txn = refl; state_is = on.state_is; forces = tt; sends_only = on.sends_only };
-      told = λ tell round k. prepares_sound sc c round (staple_of tell mail.sent) h (awaits k.asking).1 (subst (IsSoundBody sc (actor.Coordinator c.txn)) k.said_is m).revoked;
+      told = λ tell round k. prepares_sound sc c round (staple_of tell mail.sent) h (awaits k.asking).1 (staple_sound tell k.said_is);
       counted = λ reply round staple server verdicts y. counted_sound sc c (after_reply round server verdicts) staple h (replied reply round staple server verdicts y) (awaits y.checking).2;
+      probed = λ reply round staple server verdicts y whole reads. probes_sound sc c (phase.Reading span.Commit (after_reply round server verdicts)) h (tt, replied reply round staple server verdicts y);
       decides = λ instances rounds passed. commits_sound sc c instances rounds h (instances_sound instances rounds passed);
       aborted = λ why ended. aborts_sound sc c why h (cause_sound why ended);
-      updated = λ reply round staple server verdicts named y e.
-          let replied_round = after_reply round server verdicts in
-          asks_sound sc c (after_judgement replied_round None) h (next_sound sc c.txn replied_round named e (replied reply round staple server verdicts y));
+      updated = λ round staple reading named j e. asks_in_sound sc c (phase.Asking span.Commit (after_judgement round reading)) h (tt, next_sound sc c.txn round reading named e (judged_sound round staple reading j));
       acknowledged = λ ack ended awaited server k. acknowledged_sound sc c ended awaited server h (awaits k.ending);
       inquired = λ inquiry ended awaited server k. record { same_txn = refl; state_is = h; forces = tt; sends_only = orders_sound sc c ended (server ∷ []) h (subst (IsActor sc) k.from_is a, tt) };
     })
@@ -373,23 +451,37 @@ coordinator_row_sound sc c mail valid h a r m =
     awaits : {awaited : Phase} → c.phase ≡ awaited → IsSoundPhase sc c.txn awaited
     awaits e = subst (IsSoundPhase sc c.txn) e h.awaits
 
+    next_low : (query : ℕ) → 1 ≤ next_number query
+    next_low query = omega arith
+
+    staple_sound : (tell : TellReply) → mail.letter.body ≡ body.Tell tell → IsSoundStaple sc (staple_of tell mail.sent)
+    staple_sound tell e = (subst (IsSoundBody sc (actor.Coordinator c.txn)) e m).revoked
+
     replied : (reply : VoteReply) (round : Round) (staple : Staple) (server : ServerId) (verdicts : List Verdict) → IsYes c mail reply round staple server verdicts → IsSoundRound sc c.txn (after_reply round server verdicts)
     replied reply round staple server verdicts y =
         replied_sound sc c.txn round server verdicts (awaits y.checking).1 (subst (IsActor sc) y.from_is a) (yes_sound sc c mail reply round staple server verdicts m y)
 
+    judged_sound : (round : Round) (staple : Option Staple) (reading : Option Reading) → IsJudged c mail round staple reading → IsSoundJudged sc c.txn round reading
+    judged_sound _ _ _ (ByVotes reply round staple server verdicts y whole unread) =
+        let now = replied reply round staple server verdicts y in
+        record { round_is = now; newest = λ admin within global. absurd (let reads = now.levels admin global in cc) }
+    judged_sound _ _ _ (ByReading reply round k) =
+        let read : AreVersions sc reply.newest = (subst (IsSoundBody sc (actor.Coordinator c.txn)) k.said_is m).newest in
+        record { round_is = (awaits k.reading).1; newest = λ admin within global. read_version sc (reading_of reply mail.sent) admin read within }
+
     ran_sound : (query : ℕ) (now : Gained) → IsPassed sc c mail (point.Ran query) now → IsSoundCoordinator sc (with_gained c now)
-    ran_sound _ _ (QueryRan done server asked value k) = with_deed_sound sc c server done asked value h k.asked_is
+    ran_sound _ _ (QueryRan done server asked value proof k) = gains_deed_sound sc c server done asked value proof h k.asked_is (given_sound sc c mail done server asked (answer.Ran value proof) m k)
 
     instances_sound : (instances : List Instance) (rounds : ℕ) → HasVoted sc c mail point.Voted instances rounds → Each (IsSoundInstance sc c.txn) instances
-    instances_sound _ _ (AllTrue reply round staple server verdicts k) =
-        let replied_round = after_reply round server verdicts in
-        let proofs = by_query (proofs_in replied_round.targets) in
-        each_more (IsSoundInstance sc c.txn) c.instances (record { reading = None; proofs = proofs }) h.instances
-        (proofs_sound sc c.txn replied_round k.all_true (replied reply round staple server verdicts k.yes).targets)
+    instances_sound _ _ (AllTrue round staple reading k) =
+        each_more (IsSoundInstance sc c.txn) c.instances (record { reading = option_map place_of reading; proofs = by_query (proofs_in round.targets) }) h.instances
+        (proofs_sound sc c.txn round reading k.all_true (judged_sound round staple reading k.is_judged).round_is.targets)
 
     cause_sound : (why : Cause) → IsEnded sc c mail why → IsSoundCause sc c.txn why
     cause_sound _ (ByOlder done server asked other k) = died_sound sc c mail done server asked other valid m k
-    cause_sound _ (ByProof reply round staple server verdicts verdict y e) = denied_sound sc c.txn (after_reply round server verdicts) verdict e (replied reply round staple server verdicts y).targets
+    cause_sound _ (ByDenial done server asked verdict k) = let sound : IsSoundVerdict sc c.txn verdict = given_sound sc c mail done server asked (answer.Denied verdict) m k in record { query = sound.query; version = sound.version }
+    cause_sound _ (ByProof round staple reading verdict j e) = denied_sound sc c.txn round reading verdict e (judged_sound round staple reading j).round_is.targets
+    cause_sound _ (ByRounds reply round mets k e) = spent_sound sc c.txn round (Some (reading_of reply mail.sent)) mets e (judged_sound round None (Some (reading_of reply mail.sent)) (ByReading reply round k))
     cause_sound _ (ByRefusal reply round staple server number value k) = no_sound sc c mail reply round staple server number value r m k
     cause_sound _ (ByRestart done server asked k) = (server_found sc asked server (slice_get sc.items (item_of asked).0) valid refl k.server_is).exists
     cause_sound _ (ByLoss reply round staple server k) = subst (IsActor sc) k.from_is a
@@ -402,9 +494,11 @@ repeats_sound sc c valid h =
     timer_by sc c (Each (IsSoundLetter sc))
     (record {
       silent = tt;
-      queried = λ number server querying home. (query_sound sc c c.turn number server valid h (home_is sc c number server home), tt);
+      stapled = λ number stapling. (ask_sound sc c c.turn h, tt);
+      queried = λ number staple server querying home. (query_sound sc c c.turn number staple server valid h (home_is sc c number server home) ((awaits querying).1, (awaits querying).2), tt);
       asked = λ over round asking. (ask_sound sc c c.turn h, tt);
       prepared = λ round staple checking. prepare_letters_sound sc c c.turn round staple h (awaits checking).1 (awaits checking).2;
+      read = λ over round reading. (probe_sound sc c c.turn h, tt);
       ordered = λ ended awaited ending. orders_sound sc c ended awaited h (awaits ending);
     })
   where

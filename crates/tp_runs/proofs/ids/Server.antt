@@ -1,6 +1,6 @@
 -- The server's row keeps its state sound, forces a sound record, and sends sound letters.
 use Rattle.std.specs.List.{list_all, list_any}
-use Rattle.std.proofs.Common.{Bool, IfSome, List, MatchOption, None, Option, Some, [], ap, arith, false, is_none, is_some, length, option_map, refl, slice_get, slice_set, subst, suc, sym, true, unwrap_or, zero, ℕ, ℤ, ⊎_elim, ◌&&◌, ◌<◌, ◌==◌, ◌||◌, ◌∙◌, ◌∷◌, ◌≡◌}
+use Rattle.std.proofs.Common.{Bool, IfSome, List, MatchOption, None, Option, Some, [], ap, arith, false, is_some, length, not, option_map, refl, slice_get, slice_set, subst, suc, sym, true, unwrap_or, zero, ℕ, ℤ, ⊎_elim, ◌<◌, ◌==◌, ◌||◌, ◌∙◌, ◌∷◌, ◌≡◌}
 use Rattle.std.proofs.lemmas.Bool.{and_parts, eqb-true}
 use Rattle.std.proofs.lemmas.Option.{same_Some, slice_get_within}
 use Rattle.tp_types.specs.Effect.{Effect, ignores, sends}
@@ -19,22 +19,24 @@ use Rattle.tp_model.specs.Words.actor
 use Rattle.tp_model.specs.Words.answer
 use Rattle.tp_model.specs.Words.body
 use Rattle.tp_model.specs.Words.no
-use Rattle.tp_model.specs.Words.{Admin, AdminId, Answer, Body, CredId, DecideRequest, Deed, DoneReply, Item, ItemId, Letter, Mail, No, PrepareRequest, PushNotice, Query, QueryRequest, Scenario, ServerId, Settled, Staple, Transaction, TxnId, Version}
-use Rattle.tp_types.proofs.EachLemmas.{each_append, each_found, each_get, each_map, each_more, placed_emptied, placed_set}
+use Rattle.tp_model.specs.Words.{Admin, AdminId, Answer, Body, CredId, DecideRequest, Deed, DoneReply, Item, ItemId, Letter, Mail, No, PrepareRequest, PushNotice, Query, QueryRequest, Scenario, ServerId, Settled, Staple, Transaction, TxnId, Verdict, Version}
+use Rattle.tp_types.proofs.EachLemmas.{each_append, each_found, each_get, each_map, each_more, placed_emptied, placed_set, some_if_not_none}
 use Rattle.tp_runs.proofs.basics.Locks.{all_added, released_locks, requested_locks, stands_in_the_way}
 use Rattle.tp_runs.proofs.basics.Stores.{ended_each, ended_known, kept_each, kept_known, learnt_each}
 use Rattle.tp_runs.proofs.basics.Uses.{uses_once}
+use Rattle.tp_runs.proofs.basics.Verdicts.{proved_at, unproved_at}
 use Rattle.tp_runs.proofs.basics.Versions.{used_by}
 use Rattle.tp_runs.proofs.ids.Valid.{IsValid, IsValidItem}
 use Rattle.tp_server.proofs.RightVerdicts.{uses_presented}
-use Rattle.tp_server.proofs.Rows.{AreRightWaits, IsAsking, IsFirstHere, IsFurther, IsResumed, resuming, server_by_locks, unwaiting, with_locks}
+use Rattle.tp_server.proofs.Rows.{AreRightWaits, IsAsking, IsDenied, IsFirstHere, IsFurther, IsResumed, IsRunning, denying, resuming, server_by_locks, unwaiting, with_locks}
 use Rattle.tp_model.specs.Deeds.{deed_of}
-use Rattle.tp_runs.specs.Sound.{AreCreds, AreSoundVerdicts, AreVersions, AreVersionsOf, AreWanted, HaveOwners, IsItemOf, IsQueryOf, IsReasonOf, IsSettledOf, IsSoundBody, IsSoundDeedAt, IsSoundDone, IsSoundEntry, IsSoundAnswer, IsSoundLetter, IsSoundNo, IsSoundQuery, IsSoundRefusal, IsSoundServer, IsSoundServerRecord, IsSoundSettled, IsSoundVerdict, IsSoundWait, IsVersion, IsVersionOf, IsWriteOf}
+use Rattle.tp_runs.specs.Sound.{AreCreds, AreSoundVerdicts, AreVersions, AreVersionsOf, AreWanted, HasVerdict, HaveOwners, IsItemOf, IsQueryAt, IsQueryOf, IsReasonOf, IsSettledOf, IsSoundAnswer, IsSoundBody, IsSoundDeedAt, IsSoundDone, IsSoundEntry, IsSoundLetter, IsSoundNo, IsSoundProof, IsSoundQuery, IsSoundRefusal, IsSoundServer, IsSoundServerRecord, IsSoundSettled, IsSoundVerdict, IsSoundWait, IsVersion, IsVersionOf, IsWriteOf, ProvesEach}
 use Rattle.tp_types.specs.Each.{Each}
 use Rattle.tp_machine.specs.Named.{IsAdmin, IsCred, IsTxn}
+use Rattle.tp_scheme.specs.Moves.{proves_each}
 use Rattle.tp_server.specs.declared.server.Ballot.{Ballot}
 use Rattle.tp_server.specs.declared.server.Entry.{Entry}
-use Rattle.tp_server.specs.Row.{ack_letter, after_asking, answers, asked_query, closes, completes, died_reply, dies, done_reply, entry_after, followed_by, learns, lock_answer, no_letter, refused_as, reply, restarted_reply, server_row, settled_as, votes_on, waits, yes_letter}
+use Rattle.tp_server.specs.Row.{ack_letter, after_asking, answers, answers_with, asked_query, closes, completes, entry_after, followed_by, learns, lock_answer, no_letter, ran_as, refused_as, reply, reply_of, server_row, settled_as, verdict_at, votes_on, waits, yes_letter}
 use Rattle.tp_server.specs.State.{Server}
 use Rattle.tp_server.specs.Verdicts.{admin_of, with_wants, verdict_on, verdicts_on, version_known, version_used, with_versions}
 use Rattle.tp_store.proofs.OutsideLemmas.{first_is_least}
@@ -59,139 +61,7 @@ reply_sound : (sc : Scenario) (s : Server) (txn : TxnId) (said : Body) → IsSou
     → IsSoundRefusal sc (actor.Server s.server) said → IsSoundLetter sc (reply s txn said)
 reply_sound sc s txn said h exists says refuses = record { from_is_actor = h.exists; to_is_actor = exists; says = says; refuses = refuses }
 
--- ---- Query
-
-not_some : {A : Type 0} (found : Option A) (other : Bool) → (is_none found && other) ≡ true → is_some found ≡ false
-not_some None other e = refl
-not_some (Some x) other e = absurd (cc)
-
--- an entry at which a query runs is sound
-run_entry_in_ids : (sc : Scenario) (s : Server) (mail : Mail) (q : QueryRequest) (query : Query) (entry : Entry) (value : ℤ) → IsSoundServer sc s → IsAsking sc s mail q query entry value
-    → IsSoundEntry sc s.server q.txn entry
-run_entry_in_ids sc s mail q query entry value h k =
-    ⊎_elim
-    (λ (first : IsFirstHere s mail.sent q entry). subst (IsSoundEntry sc s.server q.txn) (sym first.entry_is) (record { answers = tt; waiting = tt; deeds = tt; ballot = tt }))
-    (λ (further : IsFurther s q entry). h.entries q.txn.0 entry further.found) k.place
-
--- a query without a staple is of a transaction whose queries are not each proved
-plain_done : (sc : Scenario) (s : Server) (q : QueryRequest) (answer : Answer) (epoch : ℕ) → IsSoundQuery sc (actor.Server s.server) q → (is_none q.staple && is_none q.pin) ≡ true → IsSoundAnswer sc q.txn answer
-    → IsSoundDone sc (actor.Coordinator q.txn) (record { txn = q.txn; turn = q.turn; query = q.query; epoch = epoch; answer = answer })
-plain_done sc s q answer epoch m plain sound =
-    record {
-      txn = m.txn;
-      goes_to = refl;
-      query = record { asked = m.asked; asked_is = m.asked_is };
-      answer_is_sound = sound;
-      proved = λ each. let stapled = m.stapled each in let unstapled = not_some q.staple (is_none q.pin) plain in absurd (cc);
-    }
-
-runs_sound : (sc : Scenario) (s : Server) (q : QueryRequest) (query : Query) (entry : Entry) (value : ℤ) → IsSoundServer sc s → IsSoundQuery sc (actor.Server s.server) q
-    → (is_none q.staple && is_none q.pin) ≡ true → asked_query sc q ≡ Some query → IsSoundEntry sc s.server q.txn entry → IsSoundServerEffect sc s (completes s q query entry (deed_of q.query query value))
-runs_sound sc s q query entry value h m plain query_is old =
-    let deed = deed_of q.query query value in
-    let same : query ≡ m.asked = same_Some query m.asked (sym query_is ∙ m.asked_is) in
-    let at_is : m.at ≡ s.server = cc in
-    let item_is : item_of m.asked ≡ item_of query = ap item_of (sym same) in
-    let kept : IsItemOf sc s.server deed.item = subst (IsItemOf sc s.server) item_is (subst (λ (at : ServerId). IsItemOf sc at (item_of m.asked)) at_is m.kept) in
-    let deed_sound : IsSoundDeedAt sc s.server q.txn deed =
-    record { sound = record { asked = m.asked; asked_is = m.asked_is; item_is = sym item_is; action_is = ap action_of same }; kept = kept } in
-    let done_sound : IsSoundDone sc (actor.Coordinator q.txn) (done_reply q entry.epoch deed) = plain_done sc s q (answer.Ran value None) entry.epoch m plain tt in
-    record {
-      same_server = refl;
-      state_is = record {
-        exists = h.exists;
-        known = subst (AreVersions sc) (sym (kept_known s.store q query value)) h.known;
-        writes = kept_each (IsWriteOf sc s.server) s.store q query value h.writes
-            (record { query = record { asked = m.asked; asked_is = m.asked_is; kept = subst (λ (at : ServerId). IsItemOf sc at (item_of m.asked)) at_is m.kept }; item = kept });
-        settled = h.settled;
-        entries = placed_set (λ (n : ℕ) (found : Entry). IsSoundEntry sc s.server (record { 0 = n }) found) s.entries q.txn.0 (entry_after q entry deed) h.entries
-            (record {
-              answers = each_append (IsSoundDone sc (actor.Coordinator q.txn)) entry.answers (done_reply q entry.epoch deed ∷ []) old.answers (done_sound, tt);
-              waiting = old.waiting;
-              deeds = each_append (IsSoundDeedAt sc s.server q.txn) entry.deeds (deed ∷ []) old.deeds (deed_sound, tt);
-              ballot = old.ballot;
-            });
-        locks = h.locks;
-      };
-      forces = tt;
-      sends_only = (reply_sound sc s q.txn (body.Done (done_reply q entry.epoch deed)) h m.txn done_sound tt, tt);
-    }
-
--- the entry of a query that waits
-waits_sound : (sc : Scenario) (s : Server) (q : QueryRequest) (entry : Entry) → IsSoundServer sc s → IsSoundQuery sc (actor.Server s.server) q → (is_none q.staple && is_none q.pin) ≡ true → IsSoundEntry sc s.server q.txn entry
-    → IsSoundServerEffect sc s (waits s q entry)
-waits_sound sc s q entry h m plain old =
-    record {
-      same_server = refl;
-      state_is = record {
-        exists = h.exists;
-        known = h.known;
-        writes = h.writes;
-        settled = h.settled;
-        entries = placed_set (λ (n : ℕ) (found : Entry). IsSoundEntry sc s.server (record { 0 = n }) found) s.entries q.txn.0 _ h.entries
-            (record { answers = old.answers; waiting = record { own = refl; plain = plain; sound = m }; deeds = old.deeds; ballot = old.ballot });
-        locks = h.locks;
-      };
-      forces = tt;
-      sends_only = tt;
-    }
-
--- an older transaction stands in the way
-dies_sound : (sc : Scenario) (s : Server) (q : QueryRequest) (entry : Entry) (other : TxnId) → IsSoundServer sc s → IsSoundQuery sc (actor.Server s.server) q → (is_none q.staple && is_none q.pin) ≡ true
-    → IsSoundEntry sc s.server q.txn entry → IsTxn sc other → IsSoundServerEffect sc s (dies s q entry other)
-dies_sound sc s q entry other h m plain old exists =
-    let done_sound : IsSoundDone sc (actor.Coordinator q.txn) (died_reply q entry.epoch other) = plain_done sc s q (answer.Died other) entry.epoch m plain exists in
-    record {
-      same_server = refl;
-      state_is = record {
-        exists = h.exists;
-        known = h.known;
-        writes = h.writes;
-        settled = h.settled;
-        entries = placed_set (λ (n : ℕ) (found : Entry). IsSoundEntry sc s.server (record { 0 = n }) found) s.entries q.txn.0 _ h.entries
-            (record { answers = each_more (IsSoundDone sc (actor.Coordinator q.txn)) entry.answers _ old.answers done_sound; waiting = old.waiting; deeds = old.deeds; ballot = old.ballot });
-        locks = h.locks;
-      };
-      forces = tt;
-      sends_only = (reply_sound sc s q.txn (body.Done (died_reply q entry.epoch other)) h m.txn done_sound tt, tt);
-    }
-
--- the same with other locks, which all have owners
-relocked_sound : (sc : Scenario) (s : Server) (effect : Effect Server) (locks : Table) → HaveOwners sc locks → IsSoundServerEffect sc s effect → IsSoundServerEffect sc s (with_locks effect locks)
-relocked_sound sc s effect locks owners h =
-    record {
-      same_server = h.same_server;
-      state_is = record { exists = h.state_is.exists; known = h.state_is.known; writes = h.state_is.writes; settled = h.state_is.settled; entries = h.state_is.entries; locks = owners };
-      forces = h.forces;
-      sends_only = h.sends_only;
-    }
-
--- each lock has an owner
-abbrev OwnerExists : Scenario → ℕ → LockEntry → Type 0
-OwnerExists sc item lock = IsTxn sc lock.owner
-
-asked_owners : (sc : Scenario) (s : Server) (q : QueryRequest) (query : Query) (entry : Entry) (given : Asked) → lock_answer s q query entry ≡ given → IsSoundServer sc s → IsTxn sc q.txn → HaveOwners sc (after_asking s q query entry).locks
-asked_owners sc s q query entry given e h exists =
-    requested_locks (OwnerExists sc) q.txn entry.age (item_of query) (action_of query) s.locks given e h.locks (all_added (λ (lock : LockEntry). IsTxn sc lock.owner) q.txn entry.age (action_of query) (λ held. exists) given)
-
--- what waited runs, after what was done before
-resumes_sound : (sc : Scenario) (s : Server) (effect : Effect Server) (grant : Grant) (q : QueryRequest) (query : Query) (entry : Entry) (value : ℤ) → IsResumed sc s.server effect.state grant q query entry value → IsSoundServerEffect sc s effect
-    → IsSoundServerEffect sc s (followed_by effect (resuming effect.state q query entry value))
-resumes_sound sc s effect grant q query entry value k h =
-    let old = h.state_is.entries q.txn.0 entry k.found in
-    let waited : IsSoundWait sc effect.state.server q.txn q = subst (λ (w : Option QueryRequest). IfSome w (IsSoundWait sc effect.state.server q.txn)) k.waiting_is old.waiting in
-    let ran = runs_sound sc effect.state q query (unwaiting entry) value h.state_is waited.sound k.plain k.asked_is (record { answers = old.answers; waiting = tt; deeds = old.deeds; ballot = old.ballot }) in
-    record { same_server = h.same_server; state_is = ran.state_is; forces = h.forces; sends_only = each_append (IsSoundLetter sc) effect.reaction.letters _ h.sends_only ran.sends_only }
-
--- an answer that is given again, or for the first time
-answers_sound : (sc : Scenario) (s : Server) (q : QueryRequest) (given : DoneReply) → IsSoundServer sc s → IsTxn sc q.txn → IsSoundDone sc (actor.Coordinator q.txn) given
-    → IsSoundServerEffect sc s (answers s q.txn given)
-answers_sound sc s q given h exists d = record { same_server = refl; state_is = h; forces = tt; sends_only = (reply_sound sc s q.txn (body.Done given) h exists d tt, tt) }
-
-restarted_sound : (sc : Scenario) (s : Server) (q : QueryRequest) → IsSoundQuery sc (actor.Server s.server) q → IsSoundDone sc (actor.Coordinator q.txn) (restarted_reply q s.epoch)
-restarted_sound sc s q m = record { txn = m.txn; goes_to = refl; query = record { asked = m.asked; asked_is = m.asked_is }; answer_is_sound = tt; proved = λ each. tt }
-
--- ---- Prepare
+-- ---- versions and verdicts
 
 -- of sound versions the one of an administrator that exists
 pub version_of : (admins : List Admin) (versions : List Version) (n : ℕ) (default : Version) → AreVersionsOf admins versions → n < length admins
@@ -265,6 +135,20 @@ pub learnt_sound : (sc : Scenario) (s : Server) (want : List (AdminId × Version
 learnt_sound sc s want h w =
     record { exists = h.exists; known = learnt_known sc s.store want h.known w; writes = learnt_each (IsWriteOf sc s.server) s.store want h.writes; settled = h.settled; entries = h.entries; locks = h.locks }
 
+-- the verdict on a deed names its query, with its server and its administrator
+pub verdict_query : (sc : Scenario) (at : ServerId) (txn : TxnId) (deed : Deed) → IsSoundDeedAt sc at txn deed → IsQueryAt sc txn deed.query at (admin_of sc deed.item)
+verdict_query sc at txn deed d =
+    record {
+      asked = d.sound.asked;
+      asked_is = d.sound.asked_is;
+      kept = record {
+        declared = d.kept.declared;
+        declared_is = subst (λ (item : ItemId). slice_get sc.items item.0 ≡ Some d.kept.declared) d.sound.item_is d.kept.declared_is;
+        server_is = d.kept.server_is;
+      };
+      admin_is = sym (ap (λ (found : Option Item). unwrap_or (option_map (λ (i : Item). i.admin) found) (record { 0 = 0 })) d.kept.declared_is);
+    }
+
 pub verdict_sound : (sc : Scenario) (s : Server) (txn : TxnId) (presenting : Transaction) (staple : Staple) (want : List (AdminId × Version)) (deed : Deed) → IsValid sc → IsSoundServer sc s → AreWanted sc want
     → slice_get sc.txns txn.0 ≡ Some presenting → IsSoundDeedAt sc s.server txn deed → IsSoundVerdict sc txn (verdict_on sc s presenting staple want deed)
 verdict_sound sc s txn presenting staple want deed valid h w there d =
@@ -272,22 +156,199 @@ verdict_sound sc s txn presenting staple want deed valid h w there d =
     let admin_is : d.kept.declared.admin ≡ admin_of sc deed.item =
     sym (ap (λ (found : Option Item). unwrap_or (option_map (λ (i : Item). i.admin) found) (record { 0 = 0 })) d.kept.declared_is) in
     record {
-      query = record {
-        asked = d.sound.asked;
-        asked_is = d.sound.asked_is;
-        kept = record {
-          declared = d.kept.declared;
-          declared_is = subst (λ (item : ItemId). slice_get sc.items item.0 ≡ Some d.kept.declared) d.sound.item_is d.kept.declared_is;
-          server_is = d.kept.server_is;
-        };
-        admin_is = admin_is;
-      };
+      query = verdict_query sc s.server txn deed d;
       version = subst (λ (admin : AdminId). IsVersion sc admin (version_used s want admin)) admin_is
           (used_by (IsVersion sc) s want d.kept.declared.admin w (known_version sc s d.kept.declared.admin h item_is.admin));
       uses = presented_exist sc presenting _ (each_get (λ (t : Transaction). AreCreds sc t.creds) sc.txns txn.0 presenting valid.creds there)
           (uses_presented sc presenting staple deed.query (policy_at sc (admin_of sc deed.item) (version_used s want (admin_of sc deed.item))) _ refl);
       once = uses_once sc presenting staple deed.query (policy_at sc (admin_of sc deed.item) (version_used s want (admin_of sc deed.item))) _ refl;
     }
+
+-- ---- Query
+
+-- an entry at which a query runs is sound
+run_entry_in_ids : (sc : Scenario) (s : Server) (mail : Mail) (q : QueryRequest) (query : Query) (entry : Entry) (value : ℤ) → IsSoundServer sc s → IsAsking sc s mail q query entry value
+    → IsSoundEntry sc s.server q.txn entry
+run_entry_in_ids sc s mail q query entry value h k =
+    ⊎_elim
+    (λ (first : IsFirstHere s mail.sent q entry). subst (IsSoundEntry sc s.server q.txn) (sym first.entry_is) (record { answers = tt; waiting = tt; deeds = tt; ballot = tt }))
+    (λ (further : IsFurther s q entry). h.entries q.txn.0 entry further.found) k.place
+
+-- an answer to a query
+done_sound : (sc : Scenario) (s : Server) (q : QueryRequest) (epoch : ℕ) (given : Answer) → IsSoundQuery sc (actor.Server s.server) q → IsSoundAnswer sc q.txn given → (ProvesEach sc q.txn → HasVerdict given)
+    → IsSoundDone sc (actor.Coordinator q.txn) (reply_of q epoch given)
+done_sound sc s q epoch given m sound proved =
+    record { txn = m.txn; goes_to = refl; query = record { asked = m.asked; asked_is = m.asked_is }; answer_is_sound = sound; proved = proved }
+
+-- what a query does at its server
+pub deed_sound : (sc : Scenario) (s : Server) (q : QueryRequest) (query : Query) (value : ℤ) → IsSoundQuery sc (actor.Server s.server) q → asked_query sc q ≡ Some query → IsSoundDeedAt sc s.server q.txn (deed_of q.query query value)
+deed_sound sc s q query value m query_is =
+    let same : query ≡ m.asked = same_Some query m.asked (sym query_is ∙ m.asked_is) in
+    let at_is : m.at ≡ s.server = cc in
+    let item_is : item_of m.asked ≡ item_of query = ap item_of (sym same) in
+    record {
+      sound = record { asked = m.asked; asked_is = m.asked_is; item_is = sym item_is; action_is = ap action_of same };
+      kept = subst (IsItemOf sc s.server) item_is (subst (λ (at : ServerId). IsItemOf sc at (item_of m.asked)) at_is m.kept);
+    }
+
+-- the verdict on it is sound
+verdict_at_sound : (sc : Scenario) (s : Server) (q : QueryRequest) (deed : Deed) (verdict : Verdict) → IsValid sc → IsSoundServer sc s → IsSoundDeedAt sc s.server q.txn deed → verdict_at sc s q deed ≡ Some verdict
+    → IsSoundVerdict sc q.txn verdict
+verdict_at_sound sc s q deed verdict valid h d e =
+    let p = proved_at sc s q deed verdict e in
+    subst (IsSoundVerdict sc q.txn) p.verdict_is (verdict_sound sc s q.txn p.txn p.staple [] deed valid h tt p.txn_is d)
+
+-- the proof of a query that runs is sound
+ran_proof_sound : (sc : Scenario) (s : Server) (q : QueryRequest) (deed : Deed) (proof : Option Verdict) → IsValid sc → IsSoundServer sc s → IsSoundDeedAt sc s.server q.txn deed → IsRunning sc s q deed proof → IfSome proof (IsSoundProof sc q.txn)
+ran_proof_sound sc s q deed None valid h d r = tt
+ran_proof_sound sc s q deed (Some verdict) valid h d r =
+    record { sound = verdict_at_sound sc s q deed verdict valid h d r.proof_is; has_rule = some_if_not_none verdict.rule (ap not r.holds) }
+
+-- a transaction that proves each query is one of the scenario's
+proving_there : (sc : Scenario) (txn : TxnId) → ProvesEach sc txn → (declared : Transaction) × (slice_get sc.txns txn.0 ≡ Some declared)
+proving_there sc txn each = found (slice_get sc.txns txn.0) refl each
+  where
+    found : (declared : Option Transaction) → slice_get sc.txns txn.0 ≡ declared → option_map (λ (d : Transaction). proves_each d.scheme) declared ≡ Some true → (d : Transaction) × (slice_get sc.txns txn.0 ≡ Some d)
+    found None e f = absurd (cc)
+    found (Some declared) e f = (declared, e)
+
+-- and it has one where each query is proved
+ran_proved : (sc : Scenario) (s : Server) (q : QueryRequest) (deed : Deed) (proof : Option Verdict) → IsSoundQuery sc (actor.Server s.server) q → verdict_at sc s q deed ≡ proof → ProvesEach sc q.txn → is_some proof ≡ true
+ran_proved sc s q deed (Some verdict) m e each = refl
+ran_proved sc s q deed None m e each =
+    let txn = proving_there sc q.txn each in
+    let unstapled : q.staple ≡ None = unproved_at sc s q deed e txn.0 txn.1 in
+    let stapled : is_some q.staple ≡ true = m.stapled each in
+    absurd (let none : is_some q.staple ≡ false = ap (λ (staple : Option Staple). is_some staple) unstapled in cc)
+
+runs_sound : (sc : Scenario) (s : Server) (q : QueryRequest) (query : Query) (entry : Entry) (value : ℤ) (proof : Option Verdict) → IsValid sc → IsSoundServer sc s → IsSoundQuery sc (actor.Server s.server) q
+    → asked_query sc q ≡ Some query → IsSoundEntry sc s.server q.txn entry → IsRunning sc s q (deed_of q.query query value) proof → IsSoundServerEffect sc s (completes s q query entry (deed_of q.query query value) proof)
+runs_sound sc s q query entry value proof valid h m query_is old r =
+    let deed = deed_of q.query query value in
+    let done : IsSoundDeedAt sc s.server q.txn deed = deed_sound sc s q query value m query_is in
+    let at_is : m.at ≡ s.server = cc in
+    let given : IsSoundDone sc (actor.Coordinator q.txn) (reply_of q entry.epoch (ran_as deed proof)) =
+    done_sound sc s q entry.epoch (ran_as deed proof) m (ran_proof_sound sc s q deed proof valid h done r) (λ each. ran_proved sc s q deed proof m r.proof_is each) in
+    record {
+      same_server = refl;
+      state_is = record {
+        exists = h.exists;
+        known = subst (AreVersions sc) (sym (kept_known s.store q query value)) h.known;
+        writes = kept_each (IsWriteOf sc s.server) s.store q query value h.writes
+            (record { query = record { asked = m.asked; asked_is = m.asked_is; kept = subst (λ (at : ServerId). IsItemOf sc at (item_of m.asked)) at_is m.kept }; item = done.kept });
+        settled = h.settled;
+        entries = placed_set (λ (n : ℕ) (found : Entry). IsSoundEntry sc s.server (record { 0 = n }) found) s.entries q.txn.0 (entry_after q entry deed proof) h.entries
+            (record {
+              answers = each_more (IsSoundDone sc (actor.Coordinator q.txn)) entry.answers _ old.answers given;
+              waiting = old.waiting;
+              deeds = each_append (IsSoundDeedAt sc s.server q.txn) entry.deeds (deed ∷ []) old.deeds (done, tt);
+              ballot = old.ballot;
+            });
+        locks = h.locks;
+      };
+      forces = tt;
+      sends_only = (reply_sound sc s q.txn (body.Done (reply_of q entry.epoch (ran_as deed proof))) h m.txn given tt, tt);
+    }
+
+-- the entry of a query that waits
+waits_sound : (sc : Scenario) (s : Server) (q : QueryRequest) (entry : Entry) → IsSoundServer sc s → IsSoundQuery sc (actor.Server s.server) q → IsSoundEntry sc s.server q.txn entry → IsSoundServerEffect sc s (waits s q entry)
+waits_sound sc s q entry h m old =
+    record {
+      same_server = refl;
+      state_is = record {
+        exists = h.exists;
+        known = h.known;
+        writes = h.writes;
+        settled = h.settled;
+        entries = placed_set (λ (n : ℕ) (found : Entry). IsSoundEntry sc s.server (record { 0 = n }) found) s.entries q.txn.0 _ h.entries
+            (record { answers = old.answers; waiting = record { own = refl; sound = m }; deeds = old.deeds; ballot = old.ballot });
+        locks = h.locks;
+      };
+      forces = tt;
+      sends_only = tt;
+    }
+
+-- an answer that ends the transaction
+answers_with_sound : (sc : Scenario) (s : Server) (q : QueryRequest) (entry : Entry) (given : Answer) → IsSoundServer sc s → IsSoundQuery sc (actor.Server s.server) q → IsSoundEntry sc s.server q.txn entry
+    → IsSoundAnswer sc q.txn given → (ProvesEach sc q.txn → HasVerdict given) → IsSoundServerEffect sc s (answers_with s q entry given)
+answers_with_sound sc s q entry given h m old sound proved =
+    let done : IsSoundDone sc (actor.Coordinator q.txn) (reply_of q entry.epoch given) = done_sound sc s q entry.epoch given m sound proved in
+    record {
+      same_server = refl;
+      state_is = record {
+        exists = h.exists;
+        known = h.known;
+        writes = h.writes;
+        settled = h.settled;
+        entries = placed_set (λ (n : ℕ) (found : Entry). IsSoundEntry sc s.server (record { 0 = n }) found) s.entries q.txn.0 _ h.entries
+            (record { answers = each_more (IsSoundDone sc (actor.Coordinator q.txn)) entry.answers _ old.answers done; waiting = old.waiting; deeds = old.deeds; ballot = old.ballot });
+        locks = h.locks;
+      };
+      forces = tt;
+      sends_only = (reply_sound sc s q.txn (body.Done (reply_of q entry.epoch given)) h m.txn done tt, tt);
+    }
+
+-- the proof of a query is false
+denies_sound : (sc : Scenario) (s : Server) (q : QueryRequest) (query : Query) (entry : Entry) (value : ℤ) (verdict : Verdict) → IsValid sc → IsSoundServer sc s → IsSoundQuery sc (actor.Server s.server) q
+    → asked_query sc q ≡ Some query → IsSoundEntry sc s.server q.txn entry → IsDenied sc s q (deed_of q.query query value) verdict → IsSoundServerEffect sc s (answers_with s q entry (answer.Denied verdict))
+denies_sound sc s q query entry value verdict valid h m query_is old d =
+    answers_with_sound sc s q entry (answer.Denied verdict) h m old (verdict_at_sound sc s q (deed_of q.query query value) verdict valid h (deed_sound sc s q query value m query_is) d.proof_is) (λ each. tt)
+
+-- the same with other locks, which all have owners
+relocked_sound : (sc : Scenario) (s : Server) (effect : Effect Server) (locks : Table) → HaveOwners sc locks → IsSoundServerEffect sc s effect → IsSoundServerEffect sc s (with_locks effect locks)
+relocked_sound sc s effect locks owners h =
+    record {
+      same_server = h.same_server;
+      state_is = record { exists = h.state_is.exists; known = h.state_is.known; writes = h.state_is.writes; settled = h.state_is.settled; entries = h.state_is.entries; locks = owners };
+      forces = h.forces;
+      sends_only = h.sends_only;
+    }
+
+-- each lock has an owner
+abbrev OwnerExists : Scenario → ℕ → LockEntry → Type 0
+OwnerExists sc item lock = IsTxn sc lock.owner
+
+asked_owners : (sc : Scenario) (s : Server) (q : QueryRequest) (query : Query) (entry : Entry) (given : Asked) → lock_answer s q query entry ≡ given → IsSoundServer sc s → IsTxn sc q.txn → HaveOwners sc (after_asking s q query entry).locks
+asked_owners sc s q query entry given e h exists =
+    requested_locks (OwnerExists sc) q.txn entry.age (item_of query) (action_of query) s.locks given e h.locks (all_added (λ (lock : LockEntry). IsTxn sc lock.owner) q.txn entry.age (action_of query) (λ held. exists) given)
+
+-- what waited is sound, and so is the entry at which it goes on
+record IsSoundResumed (sc : Scenario) (s : Server) (q : QueryRequest) (entry : Entry) : Type 0 where
+  asked : IsSoundQuery sc (actor.Server s.server) q
+  old : IsSoundEntry sc s.server q.txn (unwaiting entry)
+
+resumed_sound : (sc : Scenario) (s : Server) (effect : Effect Server) (grant : Grant) (q : QueryRequest) (query : Query) (entry : Entry) (value : ℤ) → IsResumed sc s.server effect.state grant q query entry value → IsSoundServerEffect sc s effect
+    → IsSoundResumed sc effect.state q entry
+resumed_sound sc s effect grant q query entry value k h =
+    let old = h.state_is.entries q.txn.0 entry k.found in
+    let waited : IsSoundWait sc effect.state.server q.txn q = subst (λ (w : Option QueryRequest). IfSome w (IsSoundWait sc effect.state.server q.txn)) k.waiting_is old.waiting in
+    record { asked = waited.sound; old = record { answers = old.answers; waiting = tt; deeds = old.deeds; ballot = old.ballot } }
+
+-- what is done further, after what was done before; it forces nothing
+followed_sound : (sc : Scenario) (s : Server) (effect further : Effect Server) → IsSoundServerEffect sc s effect → IsSoundServerEffect sc effect.state further → IsSoundServerEffect sc s (followed_by effect further)
+followed_sound sc s effect further h k =
+    record { same_server = k.same_server ∙ h.same_server; state_is = k.state_is; forces = h.forces; sends_only = each_append (IsSoundLetter sc) effect.reaction.letters further.reaction.letters h.sends_only k.sends_only }
+
+-- what waited runs
+resumes_sound : (sc : Scenario) (s : Server) (effect : Effect Server) (grant : Grant) (q : QueryRequest) (query : Query) (entry : Entry) (value : ℤ) (proof : Option Verdict) → IsValid sc → IsResumed sc s.server effect.state grant q query entry value
+    → IsRunning sc effect.state q (deed_of q.query query value) proof → IsSoundServerEffect sc s effect → IsSoundServerEffect sc s (followed_by effect (resuming effect.state q query entry value proof))
+resumes_sound sc s effect grant q query entry value proof valid k r h =
+    let waited = resumed_sound sc s effect grant q query entry value k h in
+    followed_sound sc s effect (resuming effect.state q query entry value proof) h (runs_sound sc effect.state q query (unwaiting entry) value proof valid h.state_is waited.asked k.asked_is waited.old r)
+
+-- the proof of what waited is false
+resumed_denied_sound : (sc : Scenario) (s : Server) (effect : Effect Server) (grant : Grant) (q : QueryRequest) (query : Query) (entry : Entry) (value : ℤ) (verdict : Verdict) → IsValid sc → IsResumed sc s.server effect.state grant q query entry value
+    → IsDenied sc effect.state q (deed_of q.query query value) verdict → IsSoundServerEffect sc s effect → IsSoundServerEffect sc s (followed_by effect (denying effect.state q entry verdict))
+resumed_denied_sound sc s effect grant q query entry value verdict valid k d h =
+    let waited = resumed_sound sc s effect grant q query entry value k h in
+    followed_sound sc s effect (denying effect.state q entry verdict) h (denies_sound sc effect.state q query (unwaiting entry) value verdict valid h.state_is waited.asked k.asked_is waited.old d)
+
+-- an answer that is given again, or for the first time
+answers_sound : (sc : Scenario) (s : Server) (q : QueryRequest) (given : DoneReply) → IsSoundServer sc s → IsTxn sc q.txn → IsSoundDone sc (actor.Coordinator q.txn) given
+    → IsSoundServerEffect sc s (answers s q.txn given)
+answers_sound sc s q given h exists d = record { same_server = refl; state_is = h; forces = tt; sends_only = (reply_sound sc s q.txn (body.Done given) h exists d tt, tt) }
+
+-- ---- Prepare
 
 casts_sound : (sc : Scenario) (s : Server) (p : PrepareRequest) (txn : Transaction) (staple : Staple) (entry : Entry) → IsValid sc → IsSoundServer sc s → IsTxn sc p.txn → AreWanted sc p.want
     → slice_get sc.txns p.txn.0 ≡ Some txn → IsSoundEntry sc s.server p.txn entry → IsSoundServerEffect sc s (votes_on sc (with_wants s p.want) p entry staple txn)
@@ -385,17 +446,20 @@ server_row_sound sc s mail valid rightly h m =
     server_by_locks sc s mail (IsSoundServerEffect sc s) rightly
     (record {
       ignored = ignores_sound_in_server sc s h;
-      ran = λ q query entry value k granted.
-          relocked_sound sc s (completes s q query entry (deed_of q.query query value)) (after_asking s q query entry).locks (asked_owners sc s q query entry asked.Granted granted h (said k.said_is).txn)
-          (runs_sound sc s q query entry value h (said k.said_is) k.plain k.asked_is (run_entry_in_ids sc s mail q query entry value h k));
+      ran = λ q query entry value proof k granted r.
+          relocked_sound sc s (completes s q query entry (deed_of q.query query value) proof) (after_asking s q query entry).locks (asked_owners sc s q query entry asked.Granted granted h (said k.said_is).txn)
+          (runs_sound sc s q query entry value proof valid h (said k.said_is) k.asked_is (run_entry_in_ids sc s mail q query entry value h k) r);
+      denied = λ q query entry value verdict k granted d.
+          relocked_sound sc s (answers_with s q entry (answer.Denied verdict)) (after_asking s q query entry).locks (asked_owners sc s q query entry asked.Granted granted h (said k.said_is).txn)
+          (denies_sound sc s q query entry value verdict valid h (said k.said_is) k.asked_is (run_entry_in_ids sc s mail q query entry value h k) d);
       waited = λ q query entry value k waiting.
           relocked_sound sc s (waits s q entry) (after_asking s q query entry).locks (asked_owners sc s q query entry asked.Waits waiting h (said k.said_is).txn)
-          (waits_sound sc s q entry h (said k.said_is) k.plain (run_entry_in_ids sc s mail q query entry value h k));
+          (waits_sound sc s q entry h (said k.said_is) (run_entry_in_ids sc s mail q query entry value h k));
       died = λ q query entry value other k dying.
           let way = stands_in_the_way (OwnerExists sc) q.txn entry.age (item_of query) (action_of query) s.locks other h.locks dying in
-          relocked_sound sc s (dies s q entry other) (after_asking s q query entry).locks (asked_owners sc s q query entry (asked.Dies other) dying h (said k.said_is).txn)
-          (dies_sound sc s q entry other h (said k.said_is) k.plain (run_entry_in_ids sc s mail q query entry value h k) (subst (IsTxn sc) way.owner_is way.is));
-      restarted = λ q k. answers_sound sc s q (restarted_reply q s.epoch) h (said k.said_is).txn (restarted_sound sc s q (said k.said_is));
+          relocked_sound sc s (answers_with s q entry (answer.Died other)) (after_asking s q query entry).locks (asked_owners sc s q query entry (asked.Dies other) dying h (said k.said_is).txn)
+          (answers_with_sound sc s q entry (answer.Died other) h (said k.said_is) (run_entry_in_ids sc s mail q query entry value h k) (subst (IsTxn sc) way.owner_is way.is) (λ each. tt));
+      restarted = λ q k. answers_sound sc s q (reply_of q s.epoch answer.Restarted) h (said k.said_is).txn (done_sound sc s q s.epoch answer.Restarted (said k.said_is) tt (λ each. tt));
       answered = λ q entry given k.
           answers_sound sc s q given h (said k.said_is).txn
           (each_found (IsSoundDone sc (actor.Coordinator q.txn)) (λ (d : DoneReply). d.query == q.query) entry.answers given (h.entries q.txn.0 entry k.found).answers k.given_is);
@@ -422,8 +486,12 @@ server_row_sound sc s mail valid rightly h m =
           };
       pushed = λ push k. learns_sound sc s push h (said k.said_is).version;
       passed = λ effect grant first nobody k. relocked_sound sc s effect (without_grant effect.state.locks) k.state_is.locks k;
-      resumed = λ effect grant q query entry value k now.
-          relocked_sound sc s (followed_by effect (resuming effect.state q query entry value)) (without_grant effect.state.locks) now.state_is.locks (resumes_sound sc s effect grant q query entry value k now);
+      resumed = λ effect grant q query entry value proof k r now.
+          relocked_sound sc s (followed_by effect (resuming effect.state q query entry value proof)) (without_grant effect.state.locks) now.state_is.locks
+          (resumes_sound sc s effect grant q query entry value proof valid k r now);
+      resumed_denied = λ effect grant q query entry value verdict k d now.
+          relocked_sound sc s (followed_by effect (denying effect.state q entry verdict)) (without_grant effect.state.locks) now.state_is.locks
+          (resumed_denied_sound sc s effect grant q query entry value verdict valid k d now);
     })
   where
     said : {body : Body} → mail.letter.body ≡ body → IsSoundBody sc (actor.Server s.server) body

@@ -1,5 +1,5 @@
--- What the proofs of soundness take from a scenario: rules that every scenario keeps, and one of the form that is built.
-use Rattle.std.proofs.Common.{List, [], arith, false, length, map, true, ℕ, ◌+◌, ◌∷◌, ◌≡◌, ◌≤◌}
+-- What the proofs of soundness take from a scenario: rules that every scenario keeps.
+use Rattle.std.proofs.Common.{List, [], arith, length, map, true, ℕ, ◌+◌, ◌∷◌, ◌≡◌, ◌≤◌}
 use Rattle.std.proofs.lemmas.Bool.Decides.{nat_tests}
 use Rattle.std.proofs.lemmas.Bool.{and_parts, ltb-true}
 use Rattle.std.specs.List.{list_all}
@@ -12,12 +12,10 @@ use Rattle.std.specs.Cmp.Lexicographic.{pointwise}
 use Rattle.tp_model.specs.Words.{Admin, CredId, Item, Scenario, ServerDecl, Transaction, Version}
 use Rattle.tp_offices.specs.Master.{last_of, opening_in}
 use Rattle.tp_runs.specs.Sound.{AreCreds, AreVersions, AreVersionsOf, IsVersionOf}
-use Rattle.tp_scheme.specs.Moves.{proves_each}
 use Rattle.tp_types.specs.Each.{Each}
 use Rattle.tp_machine.specs.Named.{IsAdmin, IsCred, IsServer}
 use Rattle.tp_types.proofs.EachLemmas.{each_from_all}
 use Rattle.tp_types.proofs.EachLemmas.{each_as}
-use Rattle.tp_runs.proofs.ids.Built.{deferred_built}
 use Rattle.tp_types.proofs.ListLemmas.{three_parts}
 
 -- ---- what is taken
@@ -30,8 +28,7 @@ pub record IsValidItem (sc : Scenario) (item : Item) : Type 0 where
   pub max : is_value item.max ≡ true
   pub opening : is_between item.min item.max item.value ≡ true
 
--- what the scenario names exists, each transaction is valid, and there are few credentials and administrators; no query
--- is proved as it runs, which goes when schemes are built
+-- what the scenario names exists, each transaction is valid, and there are few versions, credentials and administrators
 pub record IsValid (sc : Scenario) : Type 0 where
   pub txns : Each (λ (declared : Transaction). is_valid_txn sc declared ≡ true) sc.txns
   pub creds : Each (λ (declared : Transaction). AreCreds sc declared.creds) sc.txns
@@ -39,7 +36,7 @@ pub record IsValid (sc : Scenario) : Type 0 where
   pub servers : Each (λ (declared : ServerDecl). AreVersions sc declared.knows) sc.servers
   pub openings : AreVersions sc (map opening_in sc.admins)
   pub lasts : AreVersions sc (map last_of sc.admins)
-  pub deferred : Each (λ (declared : Transaction). proves_each declared.scheme ≡ false) sc.txns
+  pub libraries : Each (λ (admin : Admin). length admin.library ≤ 64) sc.admins
   pub few_creds : length sc.creds ≤ 256
   pub few_admins : length sc.admins ≤ 16
 
@@ -56,6 +53,10 @@ item_valid sc item e =
     let range = and_parts (has_valid_bounds item) (is_between item.min item.max item.value) parts.2 in
     let bounds = and_parts (is_value item.min) (is_value item.max) range.0 in
     record { server = ltb-true item.server.0 (length sc.servers) parts.0; admin = ltb-true item.admin.0 (length sc.admins) parts.1; min = bounds.0; max = bounds.1; opening = range.1 }
+
+library_few : (admin : Admin) → is_valid_admin admin ≡ true → length admin.library ≤ 64
+library_few admin e =
+    rules.count_most 1 64 (length admin.library) (three_parts (has_count 1 64 admin.library) (list_all is_valid_policy admin.library) (is_from_to 1 (length admin.library) admin.opening.0) e).0
 
 opening_valid : (admin : Admin) → is_valid_admin admin ≡ true → IsVersionOf admin admin.opening
 opening_valid admin e =
@@ -116,7 +117,7 @@ valid_built sc built =
       servers = servers_valid sc 0 sc.servers opening servers.1;
       openings = versions_valid opening_in sc.admins opening;
       lasts = versions_valid last_of sc.admins (each_as (λ (admin : Admin). is_valid_admin admin ≡ true) (λ (admin : Admin). IsVersionOf admin (last_of admin)) last_valid sc.admins (each_from_all is_valid_admin sc.admins admins.1));
-      deferred = deferred_built sc built;
+      libraries = each_as (λ (admin : Admin). is_valid_admin admin ≡ true) (λ (admin : Admin). length admin.library ≤ 64) library_few sc.admins (each_from_all is_valid_admin sc.admins admins.1);
       few_creds = rules.count_most 0 256 (length sc.creds) (three_parts (has_count 0 256 sc.creds) (list_all is_valid_cred sc.creds) (are_distinct same_cred_name sc.creds) kept.creds).0;
       few_admins = rules.count_most 1 16 (length sc.admins) admins.0;
     }

@@ -1,5 +1,5 @@
 -- Queries that wait do so rightly: by ids each names what exists, and by deeds and epochs it comes after the queries that have run, with nothing voted on.
-use Rattle.std.proofs.Common.{IfSome, None, Option, Some, ap, refl, subst, sym, ℕ, ◌≡◌}
+use Rattle.std.proofs.Common.{IfSome, None, Option, Some, ap, refl, subst, sym, ℕ, ◌∙◌, ◌≡◌}
 use Rattle.std.proofs.lemmas.Option.{slice_get_within}
 use Rattle.tp_model.specs.Queries.{item_of}
 use Rattle.tp_model.specs.Words.{QueryRequest, Scenario, ServerId, TxnId}
@@ -19,7 +19,7 @@ use Rattle.tp_server.specs.State.{Server}
 
 -- the query that waits at an entry
 waits_at : (sc : Scenario) (w : State) (at : ServerId) (part : Part Server) (s : Server) (n : ℕ) (entry : Entry) (waiting : Option QueryRequest) → IsServerUp w at part s → Pairs sc w → entry_at s (record { 0 = n }) ≡ Some entry
-    → entry.waiting ≡ waiting → IfSome waiting (IsSoundWait sc s.server (record { 0 = n })) → IfSome waiting (IsRightWait sc n entry)
+    → entry.waiting ≡ waiting → IfSome waiting (IsSoundWait sc s.server (record { 0 = n })) → IfSome waiting (IsRightWait sc s.server n entry)
 waits_at sc w at part s n entry None up pairs found e h = tt
 waits_at sc w at part s n entry (Some q) up pairs found e h =
     let there = declared_by sc q.txn h.sound.txn in
@@ -34,10 +34,12 @@ waits_at sc w at part s n entry (Some q) up pairs found e h =
       exists = h.sound.txn;
       unvoted = waits.unvoted;
       upto = rises site p entry q refl here fits waits.fits waits.fresh waits.unvoted;
-      plain = h.plain;
       query = h.sound.asked;
       asked_is = h.sound.asked_is;
       on_item = slice_get_within sc.items (item_of h.sound.asked).0 h.sound.kept.declared h.sound.kept.declared_is;
+      item = h.sound.kept.declared;
+      item_is = h.sound.kept.declared_is;
+      here = h.sound.kept.server_is ∙ (let same : h.sound.at ≡ s.server = cc in same);
       has_value = h.sound.has_value;
     }
 

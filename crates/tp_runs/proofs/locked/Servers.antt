@@ -1,12 +1,13 @@
 -- Locks at a server, its rows.
-use Rattle.std.proofs.Common.{Bool, List, None, Option, Some, [], ap, arith, drop, false, is_some, length, option_and_then, refl, slice_get, slice_set, subst, sym, true, ℕ, ℤ, ⊎_elim, ◌+◌, ◌++◌, ◌<◌, ◌==◌, ◌||◌, ◌∙◌, ◌∷◌, ◌≡◌, ◌≤◌}
+use Rattle.std.proofs.Common.{Bool, List, None, Option, Some, [], ap, arith, drop, false, is_some, length, option_and_then, refl, slice_get, slice_set, subst, sym, true, ℕ, ℤ, ⊎_elim, ◌+◌, ◌<◌, ◌==◌, ◌||◌, ◌∙◌, ◌≡◌, ◌≤◌}
 use Rattle.std.proofs.lemmas.Bool.{eqb-true, ne_eqb, or_parts}
 use Rattle.std.proofs.lemmas.List.{length-map, length-set}
 use Rattle.std.proofs.lemmas.Option.{same_Some}
 use Rattle.tp_types.proofs.ListLemmas.{number_itself}
 use Rattle.tp_types.specs.Effect.{Effect}
 use Rattle.std.specs.Option.{option_flatten}
-use Rattle.tp_model.specs.Words.{Action, Deed, ItemId, Mail, Query, QueryRequest, Scenario, ServerId, TxnId}
+use Rattle.tp_model.specs.Words.{Action, Answer, Deed, ItemId, Mail, Query, QueryRequest, Scenario, ServerId, TxnId}
+use Rattle.tp_model.specs.Words.answer
 use Rattle.tp_model.specs.Words.body
 use Rattle.tp_lock.proofs.ReleaseLaws.{after_release_orderly, taken_orderly}
 use Rattle.tp_lock.proofs.RequestLaws.{after_request_orderly}
@@ -31,7 +32,7 @@ use Rattle.tp_runs.proofs.basics.Folds.{set_elsewhere}
 use Rattle.tp_server.proofs.Rows.{AreRightWaits, IsAsking, IsFirstHere, IsFurther, IsResumed, server_by_locks, unwaiting}
 use Rattle.tp_types.specs.Each.{Each, EachPlaced}
 use Rattle.tp_server.specs.declared.server.Entry.{Entry}
-use Rattle.tp_server.specs.Row.{after_asking, asked_query, ballot_of, died_reply, entry_after, entry_at, lock_answer, prepared_record, server_row}
+use Rattle.tp_server.specs.Row.{after_asking, answers_with, asked_query, ballot_of, entry_after, entry_at, lock_answer, prepared_record, server_row, with_answer}
 use Rattle.tp_server.specs.State.{Server}
 use Rattle.tp_server.specs.Verdicts.{with_wants, verdicts_on}
 
@@ -311,11 +312,27 @@ passed_locked sc entries locks grant first nobody h =
         let is_none_there = ap (λ (q : Option QueryRequest). is_some q) none in
         cc
 
--- what waits for it runs
-resumed_locked : (sc : Scenario) (s : Server) (at : ServerId) (grant : Grant) (q : QueryRequest) (query : Query) (entry new : Entry) (value : ℤ) (deed : Deed) → IsResumed sc at s grant q query entry value → new.waiting ≡ None → new.deeds ≡ entry.deeds ++ deed ∷ []
-    → deed.item ≡ item_of query → deed.action ≡ action_of query → LockedMeanwhile sc s.entries s.locks → LockedMeanwhile sc (slice_set s.entries q.txn.0 (Some new)) (without_grant s.locks)
-resumed_locked sc s at grant q query entry new value deed k idle deeds item_is action_is h =
-    let first : GrantFits sc s.entries s.locks grant = each_get (GrantFits sc s.entries s.locks) s.locks.grants 0 grant h.grants k.granted in
+-- what waits for it has the lock of its deed
+resumed_has : (sc : Scenario) (s : Server) (at : ServerId) (grant : Grant) (q : QueryRequest) (query : Query) (entry : Entry) (value : ℤ) (deed : Deed) → IsResumed sc at s grant q query entry value → deed.item ≡ item_of query → deed.action ≡ action_of query
+    → LockedMeanwhile sc s.entries s.locks → DeedLocked s.locks q.txn deed
+resumed_has sc s at grant q query entry value deed k item_is action_is h = by_grant (each_get (GrantFits sc s.entries s.locks) s.locks.grants 0 grant h.grants k.granted)
+  where
+    by_grant : GrantFits sc s.entries s.locks grant → DeedLocked s.locks q.txn deed
+    by_grant first =
+        let there : option_flatten (slice_get s.entries grant.owner.0) ≡ Some entry = subst (λ (t : TxnId). option_flatten (slice_get s.entries t.0) ≡ Some entry) (sym k.owner_is) k.found in
+        let same : first.entry ≡ entry = same_Some first.entry entry (sym first.found ∙ there) in
+        let waiting : Some first.waited.q ≡ Some q = sym first.waited.waiting_is ∙ ap (λ (e : Entry). e.waiting) same ∙ k.waiting_is in
+        let asking : first.waited.q ≡ q = same_Some first.waited.q q waiting in
+        let query_is : first.waited.query ≡ query = same_Some first.waited.query query (sym first.waited.asked_is ∙ ap (asked_query sc) asking ∙ k.asked_is) in
+        let item : grant.item ≡ deed.item = ap (λ (n : ℕ). record { 0 = n }) (sym first.waited.item_is) ∙ ap item_of query_is ∙ sym item_is in
+        let mode : first.mode ≡ deed.action = sym first.waited.mode_is ∙ ap action_of query_is ∙ sym action_is in
+        subst (λ (i : ItemId). Holds q.txn deed.action (entries_at i s.locks)) item
+        (subst (λ (m : Action). Holds q.txn m (entries_at grant.item s.locks)) mode (subst (λ (t : TxnId). Holds t first.mode (entries_at grant.item s.locks)) k.owner_is first.held))
+
+-- it waits no more: it has run, or its proof is false
+resumed_locked : (sc : Scenario) (s : Server) (at : ServerId) (grant : Grant) (q : QueryRequest) (query : Query) (entry new : Entry) (value : ℤ) → IsResumed sc at s grant q query entry value → new.waiting ≡ None → EntryLocked s.locks q.txn.0 new
+    → LockedMeanwhile sc s.entries s.locks → LockedMeanwhile sc (slice_set s.entries q.txn.0 (Some new)) (without_grant s.locks)
+resumed_locked sc s at grant q query entry new value k idle locked h =
     let within = placed_within s.entries q.txn.0 entry k.found in
     let entries = slice_set s.entries q.txn.0 (Some new) in
     let owner : grant.owner.0 ≡ q.txn.0 = ap (λ (t : TxnId). t.0) k.owner_is in
@@ -326,8 +343,6 @@ resumed_locked sc s at grant q query entry new value deed k idle deeds item_is a
     let held = held_on q.txn.0 s.locks.lists none_waits in
     let others = not_granted q.txn.0 (drop 1 s.locks.grants) none_granted in
     let granted : Each (GrantFits sc s.entries s.locks) (drop 1 s.locks.grants) = each_dropped (GrantFits sc s.entries s.locks) s.locks.grants h.grants in
-    let has : DeedLocked s.locks q.txn deed = deed_has first in
-    let locked : EntryLocked s.locks q.txn.0 new = subst (Each (DeedLocked s.locks q.txn)) (sym deeds) (each_more (DeedLocked s.locks q.txn) entry.deeds deed (h.deeds q.txn.0 entry k.found) has) in
     record {
       items = h.items;
       orderly = taken_orderly s.locks h.orderly;
@@ -344,18 +359,6 @@ resumed_locked sc s at grant q query entry new value deed k idle deeds item_is a
           (λ some. let none = ap (λ (w : Option QueryRequest). is_some w) idle in absurd (cc));
       once = λ n. let fewer = dropped_count n s.locks.grants in let each = h.once n in omega (arith, fewer, each);
     }
-  where
-    deed_has : GrantFits sc s.entries s.locks grant → DeedLocked s.locks q.txn deed
-    deed_has first =
-        let there : option_flatten (slice_get s.entries grant.owner.0) ≡ Some entry = subst (λ (t : TxnId). option_flatten (slice_get s.entries t.0) ≡ Some entry) (sym k.owner_is) k.found in
-        let same : first.entry ≡ entry = same_Some first.entry entry (sym first.found ∙ there) in
-        let waiting : Some first.waited.q ≡ Some q = sym first.waited.waiting_is ∙ ap (λ (e : Entry). e.waiting) same ∙ k.waiting_is in
-        let asking : first.waited.q ≡ q = same_Some first.waited.q q waiting in
-        let query_is : first.waited.query ≡ query = same_Some first.waited.query query (sym first.waited.asked_is ∙ ap (asked_query sc) asking ∙ k.asked_is) in
-        let item : grant.item ≡ deed.item = ap (λ (n : ℕ). record { 0 = n }) (sym first.waited.item_is) ∙ ap item_of query_is ∙ sym item_is in
-        let mode : first.mode ≡ deed.action = sym first.waited.mode_is ∙ ap action_of query_is ∙ sym action_is in
-        subst (λ (i : ItemId). Holds q.txn deed.action (entries_at i s.locks)) item
-        (subst (λ (m : Action). Holds q.txn m (entries_at grant.item s.locks)) mode (subst (λ (t : TxnId). Holds t first.mode (entries_at grant.item s.locks)) k.owner_is first.held))
 
 -- ---- rows
 
@@ -371,24 +374,23 @@ row_taking sc s mail rightly known taken h =
     server_by_locks sc s mail (RowTaking sc s) rightly
     (record {
       ignored = record { state = h; places = refl };
-      ran = λ q query entry value k granted.
+      ran = λ q query entry value proof k granted r.
           let deed = deed_of q.query query value in
-          let new = entry_after q entry deed in
+          let new = entry_after q entry deed proof in
           let on = known.on_item q query k.said_is k.asked_is in
           let items = h.items in
           let within : (item_of query).0 < length s.locks.lists = omega (arith, on, items) in
           let has : DeedLocked (after_asking s q query entry).locks q.txn deed = holds_granted q.txn entry.age (item_of query) (action_of query) s.locks granted within in
           record {
-            state = asked_locked sc s mail q query entry new value asked.Granted granted k (within_for q k.said_is) (λ e. absurd (cc)) (λ some. let none = ap (λ (w : Option QueryRequest). is_some w) (idle_then sc s mail q query entry value k) in absurd (cc)) on
+            state = asked_locked sc s mail q query entry new value asked.Granted granted k (within_for q k.said_is) (λ e. absurd (cc)) (λ some. absurd (not_idle q query entry value k some)) on
                 (each_more (DeedLocked (after_asking s q query entry).locks q.txn) entry.deeds deed (asked_deeds sc s mail q query entry value k h) has) h;
             places = length-set s.entries q.txn.0 (Some new);
           };
+      denied = λ q query entry value verdict k granted d. answered_locked q query entry value (answer.Denied verdict) asked.Granted granted (λ e. cc) k;
       waited = λ q query entry value k waiting.
           let new : Entry = record entry { waiting = Some q } in
           record { state = asked_locked sc s mail q query entry new value asked.Waits waiting k (within_for q k.said_is) (λ e. refl) (λ some. refl) (known.on_item q query k.said_is k.asked_is) (asked_deeds sc s mail q query entry value k h) h; places = length-set s.entries q.txn.0 (Some new) };
-      died = λ q query entry value other k dying.
-          let new : Entry = record entry { answers = entry.answers ++ died_reply q entry.epoch other ∷ [] } in
-          record { state = asked_locked sc s mail q query entry new value (asked.Dies other) dying k (within_for q k.said_is) (λ e. absurd (cc)) (λ some. let none = ap (λ (w : Option QueryRequest). is_some w) (idle_then sc s mail q query entry value k) in absurd (cc)) (known.on_item q query k.said_is k.asked_is) (asked_deeds sc s mail q query entry value k h) h; places = length-set s.entries q.txn.0 (Some new) };
+      died = λ q query entry value other k dying. answered_locked q query entry value (answer.Died other) (asked.Dies other) dying (λ e. cc) k;
       restarted = λ q k. record { state = h; places = refl };
       answered = λ q entry given k. record { state = h; places = refl };
       voted = λ p entry staple txn k.
@@ -402,16 +404,37 @@ row_taking sc s mail rightly known taken h =
       acknowledged = λ d settled k. record { state = h; places = refl };
       pushed = λ push k. record { state = h; places = refl };
       passed = λ effect grant first nobody k. record { state = passed_locked sc effect.state.entries effect.state.locks grant first nobody k.state; places = k.places };
-      resumed = λ effect grant q query entry value k now.
-          let new = entry_after q (unwaiting entry) (deed_of q.query query value) in
+      resumed = λ effect grant q query entry value proof k r now.
+          let deed = deed_of q.query query value in
+          let new = entry_after q (unwaiting entry) deed proof in
+          let has : DeedLocked effect.state.locks q.txn deed = resumed_has sc effect.state s.server grant q query entry value deed k refl refl now.state in
           record {
-            state = resumed_locked sc effect.state s.server grant q query entry new value (deed_of q.query query value) k refl refl refl refl now.state;
+            state = resumed_locked sc effect.state s.server grant q query entry new value k refl (each_more (DeedLocked effect.state.locks q.txn) entry.deeds deed (now.state.deeds q.txn.0 entry k.found) has) now.state;
+            places = length-set effect.state.entries q.txn.0 (Some new) ∙ now.places;
+          };
+      resumed_denied = λ effect grant q query entry value verdict k d now.
+          let new = with_answer q (unwaiting entry) (answer.Denied verdict) in
+          record {
+            state = resumed_locked sc effect.state s.server grant q query entry new value k refl (now.state.deeds q.txn.0 entry k.found) now.state;
             places = length-set effect.state.entries q.txn.0 (Some new) ∙ now.places;
           };
     })
   where
     within_for : (q : QueryRequest) → mail.letter.body ≡ body.Query q → q.txn.0 < length s.entries
     within_for q e = let exists = known.exists q e in let places = known.places in omega (arith, exists, places)
+
+    not_idle : (q : QueryRequest) (query : Query) (entry : Entry) (value : ℤ) → IsAsking sc s mail q query entry value → is_some entry.waiting ≡ true → ⊥
+    not_idle q query entry value k some = let none = ap (λ (w : Option QueryRequest). is_some w) (idle_then sc s mail q query entry value k) in cc
+
+    -- the entry of a query that is answered does no more
+    answered_locked : (q : QueryRequest) (query : Query) (entry : Entry) (value : ℤ) (said : Answer) (given : Asked) → lock_answer s q query entry ≡ given → (given ≡ asked.Waits → ⊥) → IsAsking sc s mail q query entry value
+        → RowTaking sc s (answers_with (after_asking s q query entry) q entry said)
+    answered_locked q query entry value said given e settled k =
+        let new = with_answer q entry said in
+        record {
+          state = asked_locked sc s mail q query entry new value given e k (within_for q k.said_is) (λ waits. absurd (settled waits)) (λ some. absurd (not_idle q query entry value k some)) (known.on_item q query k.said_is k.asked_is) (asked_deeds sc s mail q query entry value k h) h;
+          places = length-set s.entries q.txn.0 (Some new);
+        }
 
 -- every row of a server on receipt of a mail
 pub server_row_locked : (sc : Scenario) (s : Server) (mail : Mail) → AreRightWaits sc s → AskerPlaced sc s mail → Locked sc s.entries s.locks → RowLocked sc s (server_row sc s mail)

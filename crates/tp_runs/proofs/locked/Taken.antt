@@ -1,5 +1,5 @@
 -- Locks at a server, grants: what a receipt grants is taken before it ends, so that none is left.
-use Rattle.std.proofs.Common.{List, None, Option, Some, [], ap, drop, is_none, is_some, nat_lt, not, refl, slice_get, ℕ, ℤ, ◌&&◌, ◌==◌, ◌∙◌, ◌∷◌, ◌≡◌}
+use Rattle.std.proofs.Common.{List, None, Option, Some, [], ap, drop, is_none, is_some, nat_lt, not, refl, slice_get, ℕ, ℤ, ◌==◌, ◌∙◌, ◌∷◌, ◌≡◌}
 use Rattle.std.specs.Option.{option_flatten}
 use Rattle.tp_types.specs.Effect.{Effect}
 use Rattle.tp_lock.specs.Rule.{after_release}
@@ -9,11 +9,12 @@ use Rattle.tp_lock.specs.declared.entry.Asked.{Asked}
 use Rattle.tp_lock.specs.declared.entry.Grant.{Grant}
 use Rattle.tp_model.specs.Words.body
 use Rattle.tp_model.specs.Words.no
-use Rattle.tp_model.specs.Words.{Body, DecideRequest, DoneReply, Letter, Mail, No, PrepareRequest, Query, QueryRequest, Scenario, Settled, Staple, Transaction}
+use Rattle.tp_model.specs.Words.{Body, DecideRequest, Deed, DoneReply, Letter, Mail, No, PrepareRequest, Query, QueryRequest, Scenario, Settled, Staple, Transaction, Verdict}
+use Rattle.tp_model.specs.Deeds.{deed_of}
 use Rattle.tp_types.proofs.EachLemmas.{by_cond}
 use Rattle.tp_server.specs.declared.server.Ballot.{Ballot}
 use Rattle.tp_server.specs.declared.server.Entry.{Entry}
-use Rattle.tp_server.specs.Row.{ack_letter, after_asking, after_grant, after_grants, age_of, answer_to, asked_query, asked_to_vote, asks, asks_query, asks_with, by_lock, closes, ends, entry_at, evaluates, is_open, lock_answer, names_another_epoch, new_entry, no_letter, on_body, on_open_query, on_refused, on_settled_decide, on_settled_prepare, on_unlost_query, refused_as, resumes_at, resumes_query, resumes_waiting, resumes_with, server_row, settled_as, taken_from, value_of_run, votes_at, votes_in_range, votes_with, waiting_at, without_waiting}
+use Rattle.tp_server.specs.Row.{ack_letter, after_asking, after_grant, after_grants, age_of, answer_to, asked_query, asked_to_vote, asks, asks_query, asks_with, by_lock, closes, ends, entry_at, evaluates, is_open, lock_answer, names_another_epoch, new_entry, no_letter, on_body, on_open_query, on_refused, on_settled_decide, on_settled_prepare, on_unlost_query, refused_as, resumes_at, resumes_query, resumes_waiting, resumes_with, runs_by, server_row, settled_as, taken_from, value_of_run, verdict_at, votes_at, votes_in_range, votes_with, waiting_at, without_waiting}
 use Rattle.tp_server.specs.State.{Server}
 use Rattle.tp_server.specs.Verdicts.{version_known}
 use Rattle.tp_store.specs.Rule.{first_outside_in}
@@ -24,18 +25,23 @@ HasTaken effect = effect.state.locks.grants ≡ []
 
 -- ---- grants are taken
 
--- what goes on leaves the locks
-with_keeps : (s : Server) (q : QueryRequest) (query : Query) (entry : Entry) (value : Option ℤ) → (resumes_with s q query entry value).state.locks ≡ s.locks
-with_keeps s q query entry None = refl
-with_keeps s q query entry (Some value) = refl
+-- a query that has its lock leaves the locks
+runs_keeps : (s : Server) (q : QueryRequest) (query : Query) (entry : Entry) (deed : Deed) (proof : Option Verdict) → (runs_by s q query entry deed proof).state.locks ≡ s.locks
+runs_keeps s q query entry deed None = refl
+runs_keeps s q query entry deed (Some verdict) = by_cond (λ (effect : Effect Server). effect.state.locks ≡ s.locks) (is_none verdict.rule) (λ fails. refl) (λ holds. refl)
 
-query_keeps : (s : Server) (q : QueryRequest) (entry : Entry) (query : Option Query) → (resumes_query s q entry query).state.locks ≡ s.locks
-query_keeps s q entry None = refl
-query_keeps s q entry (Some query) = with_keeps s q query entry (value_of_run s q query)
+-- so does what goes on
+with_keeps : (sc : Scenario) (s : Server) (q : QueryRequest) (query : Query) (entry : Entry) (value : Option ℤ) → (resumes_with sc s q query entry value).state.locks ≡ s.locks
+with_keeps sc s q query entry None = refl
+with_keeps sc s q query entry (Some value) = let deed = deed_of q.query query value in runs_keeps s q query entry deed (verdict_at sc s q deed)
+
+query_keeps : (sc : Scenario) (s : Server) (q : QueryRequest) (entry : Entry) (query : Option Query) → (resumes_query sc s q entry query).state.locks ≡ s.locks
+query_keeps sc s q entry None = refl
+query_keeps sc s q entry (Some query) = with_keeps sc s q query entry (value_of_run s q query)
 
 at_keeps : (sc : Scenario) (s : Server) (q : QueryRequest) (entry : Option Entry) → (resumes_at sc s q entry).state.locks ≡ s.locks
 at_keeps sc s q None = refl
-at_keeps sc s q (Some entry) = query_keeps s q entry (asked_query sc q)
+at_keeps sc s q (Some entry) = query_keeps sc s q entry (asked_query sc q)
 
 waiting_keeps : (sc : Scenario) (s : Server) (waiting : Option QueryRequest) → (resumes_waiting sc s waiting).state.locks ≡ s.locks
 waiting_keeps sc s None = refl
@@ -54,21 +60,24 @@ ends_taken sc s order letter = all_taken sc (after_release order.txn s.locks).gr
 
 -- ---- Query
 
-lock_taken : (s : Server) (q : QueryRequest) (query : Query) (entry : Entry) (value : ℤ) (given : Asked) → s.locks.grants ≡ [] → HasTaken (by_lock (after_asking s q query entry) q query entry value given)
-lock_taken s q query entry value asked.Granted e = e
-lock_taken s q query entry value asked.Waits e = e
-lock_taken s q query entry value (asked.Dies other) e = e
+lock_taken : (sc : Scenario) (s : Server) (q : QueryRequest) (query : Query) (entry : Entry) (value : ℤ) (given : Asked) → s.locks.grants ≡ [] → HasTaken (by_lock sc (after_asking s q query entry) q query entry value given)
+lock_taken sc s q query entry value asked.Granted e =
+    let now = after_asking s q query entry in
+    let deed = deed_of q.query query value in
+    ap (λ (locks : Table). locks.grants) (runs_keeps now q query entry deed (verdict_at sc now q deed)) ∙ e
+lock_taken sc s q query entry value asked.Waits e = e
+lock_taken sc s q query entry value (asked.Dies other) e = e
 
-value_taken : (s : Server) (q : QueryRequest) (query : Query) (entry : Entry) (value : Option ℤ) → s.locks.grants ≡ [] → HasTaken (asks_with s q query entry value)
-value_taken s q query entry None e = e
-value_taken s q query entry (Some value) e = lock_taken s q query entry value (lock_answer s q query entry) e
+value_taken : (sc : Scenario) (s : Server) (q : QueryRequest) (query : Query) (entry : Entry) (value : Option ℤ) → s.locks.grants ≡ [] → HasTaken (asks_with sc s q query entry value)
+value_taken sc s q query entry None e = e
+value_taken sc s q query entry (Some value) e = lock_taken sc s q query entry value (lock_answer s q query entry) e
 
-query_taken : (s : Server) (q : QueryRequest) (entry : Entry) (query : Option Query) → s.locks.grants ≡ [] → HasTaken (asks_query s q entry query)
-query_taken s q entry None e = e
-query_taken s q entry (Some query) e = value_taken s q query entry (value_of_run s q query) e
+query_taken : (sc : Scenario) (s : Server) (q : QueryRequest) (entry : Entry) (query : Option Query) → s.locks.grants ≡ [] → HasTaken (asks_query sc s q entry query)
+query_taken sc s q entry None e = e
+query_taken sc s q entry (Some query) e = value_taken sc s q query entry (value_of_run s q query) e
 
 asks_taken : (sc : Scenario) (s : Server) (q : QueryRequest) (entry : Entry) → s.locks.grants ≡ [] → HasTaken (asks sc s q entry)
-asks_taken sc s q entry e = by_cond HasTaken (is_none q.staple && is_none q.pin) (λ plain. query_taken s q entry (asked_query sc q) e) (λ other. e)
+asks_taken sc s q entry e = by_cond HasTaken (is_none q.pin) (λ unpinned. query_taken sc s q entry (asked_query sc q) e) (λ pinned. e)
 
 unlost_taken : (sc : Scenario) (s : Server) (q : QueryRequest) (entry : Entry) (given : Option DoneReply) → s.locks.grants ≡ [] → HasTaken (on_unlost_query sc s q entry given)
 unlost_taken sc s q entry (Some given) e = e

@@ -1,13 +1,14 @@
 -- How many letters an act sends, the rows: a server sends one, and one for each query that waited and runs; and a coordinator one, or one to each of its servers or of those that it awaits.
-use Rattle.std.proofs.Common.{Bool, List, None, Option, Some, [], ap, arith, false, filter, is_some, length, map, not, refl, slice_get, slice_set, subst, suc, zero, ℕ, ℤ, ⊎_elim, ◌+◌, ◌++◌, ◌==◌, ◌∙◌, ◌≡◌, ◌≤◌, ◌∷◌}
+use Rattle.std.proofs.Common.{Bool, List, None, Option, Some, [], ap, arith, false, filter, is_some, length, map, not, refl, slice_get, slice_set, subst, suc, zero, ℕ, ℤ, ⊎_elim, ◌+◌, ◌==◌, ◌∙◌, ◌∷◌, ◌≡◌, ◌≤◌}
 use Rattle.std.proofs.lemmas.List.{length-map, length_push}
 use Rattle.std.specs.Option.{option_flatten}
 use Rattle.tp_types.specs.Effect.{Effect}
+use Rattle.tp_model.specs.Words.answer
 use Rattle.tp_model.specs.Words.body
 use Rattle.tp_model.specs.Words.outcome
-use Rattle.tp_model.specs.Words.{Letter, Mail, Outcome, Query, QueryRequest, Scenario, ServerId, Verdict}
+use Rattle.tp_model.specs.Words.{Letter, Mail, Outcome, Query, QueryRequest, Reading, Scenario, ServerId, Staple, Verdict}
 use Rattle.tp_model.specs.Deeds.{deed_of}
-use Rattle.tp_round.specs.Judge.{after_judgement, after_reply, aim_in, awaits, is_missing, judge, new_target, next_target, with_reply}
+use Rattle.tp_round.specs.Judge.{after_judgement, aim_in, awaits, is_missing, judge, new_target, next_target, with_reply}
 use Rattle.tp_round.specs.declared.round.Judged.TheVariants as judged
 use Rattle.tp_round.specs.declared.round.Round.{Round}
 use Rattle.tp_round.specs.declared.round.Target.{Target}
@@ -15,7 +16,7 @@ use Rattle.tp_round.specs.declared.round.Wanted.{Wanted}
 use Rattle.tp_runs.proofs.basics.Rounds.{missing_in, updated_is}
 use Rattle.tp_coord.specs.declared.coordinator.Phase.TheVariants as phase
 use Rattle.tp_types.proofs.EachLemmas.{by_cond}
-use Rattle.tp_coord.proofs.Rows.{coordinator_by, submit_by, timer_by}
+use Rattle.tp_coord.proofs.Rows.{ByReading, ByVotes, IsJudged, coordinator_by, submit_by, timer_by}
 use Rattle.tp_server.proofs.Rows.{AreRightWaits, IsAsking, IsFirstHere, IsFurther, server_by, unwaiting}
 use Rattle.tp_machine.specs.Machine.{with_age}
 use Rattle.tp_coord.specs.Row as coord
@@ -80,11 +81,13 @@ server_row_sends sc s mail waits =
     (record {
       relocked = λ effect locks k. k;
       ignored = omega arith;
-      ran = λ q query entry value k.
-          omega (arith, idle_there sc s mail q query entry value k, waits_set s.entries q.txn.0 (Some (server.entry_after q entry (deed_of q.query query value))));
+      ran = λ q query entry value proof k r.
+          omega (arith, idle_there sc s mail q query entry value k, waits_set s.entries q.txn.0 (Some (server.entry_after q entry (deed_of q.query query value) proof)));
+      denied = λ q query entry value verdict k d.
+          omega (arith, idle_there sc s mail q query entry value k, waits_set s.entries q.txn.0 (Some (server.with_answer q entry (answer.Denied verdict))));
       waited = λ q query entry value k. omega (arith, waits_set s.entries q.txn.0 (Some (record entry { waiting = Some q })));
       died = λ q query entry value other k dying.
-          omega (arith, idle_there sc s mail q query entry value k, waits_set s.entries q.txn.0 (Some (record entry { answers = entry.answers ++ server.died_reply q entry.epoch other ∷ [] })));
+          omega (arith, idle_there sc s mail q query entry value k, waits_set s.entries q.txn.0 (Some (server.with_answer q entry (answer.Died other))));
       restarted = λ q k. omega arith;
       answered = λ q entry given k. omega arith;
       voted = λ p entry staple txn k.
@@ -97,15 +100,25 @@ server_row_sends sc s mail waits =
       settled = λ d k. omega (arith, waits_set s.entries d.txn.0 None);
       acknowledged = λ d settled k. omega arith;
       pushed = λ push k. omega arith;
-      resumed = λ effect grant q query entry value k now.
+      resumed = λ effect grant q query entry value proof k r now.
           let was : waits_at (server.entry_at effect.state q.txn) ≡ waits_at (Some entry) = ap waits_at k.found in
           omega (
             arith,
             now,
             was,
             one_waits entry q k.waiting_is,
-            waits_set effect.state.entries q.txn.0 (Some (server.entry_after q (unwaiting entry) (deed_of q.query query value))),
-            length_push effect.reaction.letters (server.done_letter effect.state q (unwaiting entry) (deed_of q.query query value)),
+            waits_set effect.state.entries q.txn.0 (Some (server.entry_after q (unwaiting entry) (deed_of q.query query value) proof)),
+            length_push effect.reaction.letters (server.reply_letter effect.state q (unwaiting entry) (server.ran_as (deed_of q.query query value) proof)),
+          );
+      resumed_denied = λ effect grant q query entry value verdict k d now.
+          let was : waits_at (server.entry_at effect.state q.txn) ≡ waits_at (Some entry) = ap waits_at k.found in
+          omega (
+            arith,
+            now,
+            was,
+            one_waits entry q k.waiting_is,
+            waits_set effect.state.entries q.txn.0 (Some (server.with_answer q (unwaiting entry) (answer.Denied verdict))),
+            length_push effect.reaction.letters (server.reply_letter effect.state q (unwaiting entry) (answer.Denied verdict)),
           );
     })
 
@@ -151,8 +164,13 @@ replied_length (target ∷ targets) server verdicts =
     by_cond (λ (ts : List Target). length ts ≡ length (target ∷ targets)) (awaits server target) (λ e. refl) (λ e. omega (arith, later))
 
 -- so does an update
-updated_length : (round : Round) (named : List Wanted) → judge round None ≡ judged.Update named → length (after_judgement round None).targets ≡ length round.targets
-updated_length round named e = ap (λ (r : Round). length r.targets) (updated_is round named e) ∙ length-map round.targets (next_target (aim_in round None))
+updated_length : (round : Round) (reading : Option Reading) (named : List Wanted) → judge round reading ≡ judged.Update named → length (after_judgement round reading).targets ≡ length round.targets
+updated_length round reading named e = ap (λ (r : Round). length r.targets) (updated_is round reading named e) ∙ length-map round.targets (next_target (aim_in round reading))
+
+-- a round that is judged has as many servers as the one that was awaited
+judged_few : (most : ℕ) (c : Coordinator) (mail : Mail) (round : Round) (staple : Option Staple) (reading : Option Reading) → AwaitsFew most c → IsJudged c mail round staple reading → length round.targets ≤ most
+judged_few most c mail _ _ _ h (ByVotes reply round staple server verdicts y whole unread) = omega (arith, awaits_in most c _ h y.checking, replied_length round.targets server verdicts)
+judged_few most c mail _ _ _ h (ByReading reply round k) = awaits_in most c _ h k.reading
 
 -- the awaited servers of a round are some of its servers
 missing_few : (targets : List Target) → length (missing_in targets) ≤ length targets
@@ -170,16 +188,18 @@ coordinator_row_sends most sc c mail one servers h =
     coordinator_by sc c mail (SendsFew most)
     (record {
       ignored = record { awaits = h; letters = omega arith };
+      stapled = λ tell query home k at. record { awaits = omega arith; letters = one };
       sends_query = λ query now next passed moves home. record { awaits = omega arith; letters = one };
+      asks_staple = λ query now passed moves. record { awaits = omega arith; letters = one };
       commit_rounds = λ query now passed moves. record { awaits = omega (arith, servers, length-map c.servers new_target); letters = one };
       told = λ tell round k.
           let few = awaits_in most c _ h k.asking in
           record { awaits = few; letters = omega (arith, few, missing_few round.targets, length-map (missing_in round.targets) (coord.prepare_letter c (coord.next_turn c) round (coord.staple_of tell mail.sent))) };
       counted = λ reply round staple server verdicts y. record { awaits = omega (arith, awaits_in most c _ h y.checking, replied_length round.targets server verdicts); letters = omega arith };
+      probed = λ reply round staple server verdicts y whole reads. record { awaits = omega (arith, awaits_in most c _ h y.checking, replied_length round.targets server verdicts); letters = one };
       decides = λ instances rounds passed. record { awaits = servers; letters = decides_few most c c.servers outcome.Commit servers };
       aborted = λ why ended. record { awaits = servers; letters = decides_few most c c.servers outcome.Abort servers };
-      updated = λ reply round staple server verdicts named y e.
-          record { awaits = omega (arith, awaits_in most c _ h y.checking, replied_length round.targets server verdicts, updated_length (after_reply round server verdicts) named e); letters = one };
+      updated = λ round staple reading named j e. record { awaits = omega (arith, judged_few most c mail round staple reading h j, updated_length round reading named e); letters = one };
       acknowledged = λ ack ended awaited server a. record { awaits = without_few most awaited server (awaits_in most c _ h a.ending); letters = omega arith };
       inquired = λ inquiry ended awaited server k. record { awaits = h; letters = one };
     })
@@ -190,7 +210,8 @@ submit_row_sends most place sc c one h =
     submit_by sc c (λ (effect : Effect Coordinator). SendsFew most (with_age effect place))
     (record {
       ignored = record { awaits = h; letters = omega arith };
-      sent = λ server home. record { awaits = omega arith; letters = one };
+      sent = λ server begins home. record { awaits = omega arith; letters = one };
+      asked = λ begins. record { awaits = omega arith; letters = one };
     })
 
 -- a request that is sent again goes to those that are awaited at most
@@ -199,10 +220,12 @@ repeats_sends most sc c one h =
     timer_by sc c (λ (letters : List Letter). length letters ≤ most)
     (record {
       silent = omega arith;
-      queried = λ number server querying home. one;
+      stapled = λ number stapling. one;
+      queried = λ number staple server querying home. one;
       asked = λ over round asking. one;
       prepared = λ round staple checking.
           let few = awaits_in most c _ h checking in
           omega (arith, few, missing_few round.targets, length-map (missing_in round.targets) (coord.prepare_letter c c.turn round staple));
+      read = λ over round reading. one;
       ordered = λ ended awaited ending. decides_few most c awaited ended (awaits_in most c _ h ending);
     })

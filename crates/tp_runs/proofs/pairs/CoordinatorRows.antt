@@ -11,13 +11,13 @@ use Rattle.tp_model.specs.Limits.{is_empty}
 use Rattle.tp_model.specs.Words.actor
 use Rattle.tp_model.specs.Words.body
 use Rattle.tp_model.specs.Words.outcome
-use Rattle.tp_model.specs.Words.{Actor, Body, Deed, DoneReply, Item, Letter, Mail, Outcome, PrepareRequest, Query, QueryRequest, Scenario, ServerId, Staple, Transaction, TxnId, ValidateRequest}
+use Rattle.tp_model.specs.Words.{Actor, Body, Deed, DoneReply, Item, Letter, Mail, Outcome, PrepareRequest, Query, QueryRequest, Reading, Scenario, ServerId, Staple, Transaction, TxnId, ValidateRequest, Verdict}
 use Rattle.tp_runs.proofs.agreement.Coordinator.{idle_is}
 use Rattle.tp_runs.proofs.basics.Homes.{HaveHomes, IsHome, home_is, last_is, next_is}
 use Rattle.tp_types.proofs.EachLemmas.{each_get, set_here}
 use Rattle.tp_runs.proofs.basics.Phases.{Asks, Pauses, Prepares, Stand, awaits_is, is_undecided, sent_to_server, stand_of}
 use Rattle.tp_runs.proofs.epochs.Coordinator.{some_is}
-use Rattle.tp_runs.proofs.epochs.Kept.{KeepsEpoch, PhaseKept, from_server, kept_epoch}
+use Rattle.tp_runs.proofs.epochs.Kept.{KeepsEpoch, PhaseKept, from_server, kept_epoch, with_ran}
 use Rattle.tp_runs.proofs.ids.Valid.{IsValid, IsValidItem}
 use Rattle.tp_runs.proofs.pairs.Actors.{asker_in, asker_of, asker_up, site_of}
 use Rattle.tp_runs.proofs.pairs.Answered.{Taken, answered, elsewhere, next_deed, taken, takes}
@@ -33,7 +33,7 @@ use Rattle.tp_runs.proofs.deeds.Runs.{deed_asked, deed_at}
 use Rattle.tp_runs.proofs.basics.Turns.{turn_rises}
 use Rattle.tp_scheme.specs.declared.moves.Move.TheVariants as move
 use Rattle.tp_scheme.specs.declared.moves.Point.TheVariants as point
-use Rattle.tp_coord.proofs.Rows.{Gained, IsPassed, IsRanAnswer, QueryRan, coordinator_by, gains_instances, submit_by, timer_by, with_gained}
+use Rattle.tp_coord.proofs.Rows.{ByReading, ByVotes, Gained, IsJudged, IsPassed, IsRanAnswer, QueryRan, coordinator_by, gains_instances, submit_by, timer_by, with_gained}
 use Rattle.tp_machine.specs.Machine.{with_age}
 use Rattle.tp_model.specs.Deeds.{deed_of}
 use Rattle.tp_types.specs.Each.{Each}
@@ -153,11 +153,11 @@ abbrev asking_of : ℕ → Coordinator → ℕ → Asker
 asking_of at c turn = record { stand = Asks; turn = turn; epoch = option_flatten (slice_get c.epochs at); deeds = c.deeds }
 
 -- a coordinator that asks its next query, the first time or again
-query_requested : (sc : Scenario) (declared : Transaction) (p : Pair) (c : Coordinator) (turn number : ℕ) (server : ServerId) → slice_get sc.txns c.txn.0 ≡ Some declared → Fits (site_of sc server.0 declared) p
-    → p.asker ≡ Some (asking_of server.0 c turn) → number ≡ length c.deeds + 1 → IsHome sc c number server → QueryFits (site_of sc server.0 declared) p (coord.query_request sc c turn server number)
-query_requested sc declared p c turn number server declared_is fits is number_is home =
+query_requested : (sc : Scenario) (declared : Transaction) (p : Pair) (c : Coordinator) (turn number : ℕ) (staple : Option Staple) (server : ServerId) → slice_get sc.txns c.txn.0 ≡ Some declared → Fits (site_of sc server.0 declared) p
+    → p.asker ≡ Some (asking_of server.0 c turn) → number ≡ length c.deeds + 1 → IsHome sc c number server → QueryFits (site_of sc server.0 declared) p (coord.query_request sc c turn server number staple)
+query_requested sc declared p c turn number staple server declared_is fits is number_is home =
     let asked_is : query_at declared number ≡ Some home.asked = query_declared sc c declared number home.asked declared_is home.asked_is in
-    asks (site_of sc server.0 declared) p (asking_of server.0 c turn) (coord.query_request sc c turn server number) is fits refl
+    asks (site_of sc server.0 declared) p (asking_of server.0 c turn) (coord.query_request sc c turn server number staple) is fits refl
     (subst (λ (n : ℕ). here (site_of sc server.0 declared) n ≡ true) number_is (query_here_in_pairs sc declared number home.asked server asked_is home.server_is))
     (record {
       turn = refl;
@@ -166,48 +166,93 @@ query_requested sc declared p c turn number server declared_is fits is number_is
       value = ap (option_and_then (λ (d : Transaction). asked_value d c.deeds number)) declared_is ∙ ap (λ (n : ℕ). asked_value declared c.deeds n) number_is;
     })
 
-sent_asks : (sc : Scenario) (declared : Transaction) (P : ℕ → Pair) (c : Coordinator) (age : ℕ) (server : ServerId) → CoordinatorPaired sc declared P c → c.phase ≡ phase.Idle → IsHome sc c 1 server
-    → RowAsks sc declared P (with_age (coord.sends_query sc c 1 server) age)
-sent_asks sc declared P c age server h idle home =
-    let next = coord.coordinator_with_age (coord.sends_query sc c 1 server).state age in
-    let undecided : is_undecided c.phase ≡ true = ap is_undecided idle in
-    let short : length c.deeds ≡ 0 = ap length (subst (λ (p : Phase). PhaseNumbered p c.deeds) idle h.numbered) in
-    let first : 1 ≡ length c.deeds + 1 = omega (arith, short) in
+-- a coordinator that moves on by itself, in a further turn: it awaits no answer; it asks while queries are left, and prepares once all have run, for good
+stands_on : (sc : Scenario) (declared : Transaction) (P : ℕ → Pair) (c next : Coordinator) (stand : Stand) → CoordinatorPaired sc declared P c → is_undecided c.phase ≡ true → (stand_of c.phase ≡ Asks → ⊥)
+    → (stand_of c.phase ≡ Prepares → stand ≡ Prepares) → (stand ≡ Asks → length c.deeds < length declared.queries) → (stand ≡ Prepares → length c.deeds ≡ length declared.queries)
+    → ((at : ℕ) → asker_up at next ≡ Some (record { stand = stand; turn = next_turn c; epoch = option_flatten (slice_get c.epochs at); deeds = c.deeds }))
+    → (at : ℕ) → Next (site_of sc at declared) (P at) (with_asker (P at) (asker_up at next))
+stands_on sc declared P c next stand h undecided answered stays left all is at =
     let rises : next_turn c ≡ c.turn + 1 = turn_rises c h.low in
-    let within : 0 < length declared.queries = slice_get_within declared.queries 0 home.asked (query_declared sc c declared 1 home.asked h.declared_is home.asked_is) in
-    let event : (at : ℕ) → Next (site_of sc at declared) (P at) (with_asker (P at) (asker_up at next)) = λ at.
-    moves (site_of sc at declared) (P at) (asker_of at c) Asks (next_turn c) (asker_there sc declared P c at h undecided) (h.fits at)
-    (record {
-      answered = λ asks. let rests = ap stand_of idle in cc;
-      rises = omega (arith, rises);
-      asks = λ e. omega (arith, short, within);
-      all = λ e. absurd (cc);
-      stays = λ e. let rests = ap stand_of idle in absurd (cc);
-    }) in
+    subst (λ (a : Option Asker). Next (site_of sc at declared) (P at) (with_asker (P at) a)) (sym (is at))
+    (moves (site_of sc at declared) (P at) (asker_of at c) stand (next_turn c) (asker_there sc declared P c at h undecided) (h.fits at)
+    (record { answered = answered; rises = omega (arith, rises); asks = left; all = all; stays = stays }))
+
+-- a coordinator that is about to ask its next query: it awaits nothing of a server, and prepares nothing
+record IsFree (c : Coordinator) (number : ℕ) : Type 0 where
+  pub undecided : is_undecided c.phase ≡ true
+  pub answered : stand_of c.phase ≡ Asks → ⊥
+  pub unprepared : stand_of c.phase ≡ Prepares → ⊥
+  pub number_is : number ≡ length c.deeds + 1
+
+-- so it is before its submission
+idle_free : (sc : Scenario) (declared : Transaction) (P : ℕ → Pair) (c : Coordinator) → CoordinatorPaired sc declared P c → c.phase ≡ phase.Idle → IsFree c 1
+idle_free sc declared P c h idle =
+    let short : length c.deeds ≡ 0 = ap length (subst (λ (p : Phase). PhaseNumbered p c.deeds) idle h.numbered) in
     record {
-      next = event;
-      numbered = first;
-      requests = ((refl, query_requested sc declared (with_asker (P server.0) (asker_up server.0 next)) c (next_turn c) 1 server h.declared_is (event server.0).fits refl first home), tt);
+      undecided = ap is_undecided idle;
+      answered = λ asks. let rests = ap stand_of idle in cc;
+      unprepared = λ prepares. let rests = ap stand_of idle in cc;
+      number_is = omega (arith, short);
     }
 
--- a submission that sends nothing
-unsent_asks : (sc : Scenario) (declared : Transaction) (P : ℕ → Pair) (c : Coordinator) (age : ℕ) → CoordinatorPaired sc declared P c → RowAsks sc declared P (with_age (ignores c) age)
-unsent_asks sc declared P c age h = record { next = λ at. still_asks sc declared P c (coord.coordinator_with_age c age) at h refl; numbered = h.numbered; requests = tt }
+-- and while the authority is asked before a query
+stapling_free : (sc : Scenario) (declared : Transaction) (P : ℕ → Pair) (c : Coordinator) (number : ℕ) → CoordinatorPaired sc declared P c → c.phase ≡ phase.Stapling number → IsFree c number
+stapling_free sc declared P c number h stapling =
+    record {
+      undecided = ap is_undecided stapling;
+      answered = λ asks. let pauses = ap stand_of stapling in cc;
+      unprepared = λ prepares. let pauses = ap stand_of stapling in cc;
+      number_is = subst (λ (p : Phase). PhaseNumbered p c.deeds) stapling h.numbered;
+    }
+
+-- it asks its next query
+query_asks : (sc : Scenario) (declared : Transaction) (P : ℕ → Pair) (c : Coordinator) (number : ℕ) (staple : Option Staple) (server : ServerId) → CoordinatorPaired sc declared P c → IsFree c number → IsHome sc c number server
+    → RowAsks sc declared P (coord.sends_query sc c number staple server)
+query_asks sc declared P c number staple server h free home =
+    let next = (coord.sends_query sc c number staple server).state in
+    let place : number ≡ suc (length c.deeds) = let is = free.number_is in omega (arith, is) in
+    let asked_is : query_at declared number ≡ Some home.asked = query_declared sc c declared number home.asked h.declared_is home.asked_is in
+    let within : length c.deeds < length declared.queries = slice_get_within declared.queries (length c.deeds) home.asked (subst (λ (n : ℕ). query_at declared n ≡ Some home.asked) place asked_is) in
+    let event : (at : ℕ) → Next (site_of sc at declared) (P at) (with_asker (P at) (asker_up at next)) =
+    stands_on sc declared P c next Asks h free.undecided free.answered (λ e. absurd (free.unprepared e)) (λ e. within) (λ e. absurd (cc)) (λ at. refl) in
+    record {
+      next = event;
+      numbered = free.number_is;
+      requests = ((refl, query_requested sc declared (with_asker (P server.0) (asker_up server.0 next)) c (next_turn c) number staple server h.declared_is (event server.0).fits refl free.number_is home), tt);
+    }
+
+-- the authority is asked before the first query
+first_staple_asks : (sc : Scenario) (declared : Transaction) (P : ℕ → Pair) (c : Coordinator) → CoordinatorPaired sc declared P c → c.phase ≡ phase.Idle → RowAsks sc declared P (coord.asks_in c (phase.Stapling 1))
+first_staple_asks sc declared P c h idle =
+    let free = idle_free sc declared P c h idle in
+    record {
+      next = stands_on sc declared P c (coord.asks_in c (phase.Stapling 1)).state Pauses h free.undecided free.answered (λ e. absurd (free.unprepared e)) (λ e. absurd (cc)) (λ e. absurd (cc)) (λ at. refl);
+      numbered = free.number_is;
+      requests = (tt, tt);
+    }
+
+-- the place of the submission is the age, which nothing here hangs on
+aged_asks : (sc : Scenario) (declared : Transaction) (P : ℕ → Pair) (effect : Effect Coordinator) (age : ℕ) → RowAsks sc declared P effect → RowAsks sc declared P (with_age effect age)
+aged_asks sc declared P effect age h = record { next = h.next; numbered = h.numbered; requests = h.requests }
 
 pub submit_row_asks : (sc : Scenario) (declared : Transaction) (P : ℕ → Pair) (c : Coordinator) (age : ℕ) → CoordinatorPaired sc declared P c → coord.is_begun c.phase ≡ false
     → RowAsks sc declared P (with_age (coord.submit_row sc c) age)
 submit_row_asks sc declared P c age h new =
-    submit_by sc c (λ (effect : Effect Coordinator). RowAsks sc declared P (with_age effect age))
+    let idle : c.phase ≡ phase.Idle = idle_is c.phase new in
+    aged_asks sc declared P (coord.submit_row sc c) age
+    (submit_by sc c (RowAsks sc declared P)
     (record {
-      ignored = unsent_asks sc declared P c age h;
-      sent = λ server home. sent_asks sc declared P c age server h (idle_is c.phase new) (home_is sc c 1 server home);
-    })
+      ignored = ignores_asks sc declared P c h;
+      sent = λ server moves home. query_asks sc declared P c 1 None server h (idle_free sc declared P c h idle) (home_is sc c 1 server home);
+      asked = λ moves. first_staple_asks sc declared P c h idle;
+    }))
 
 -- ---- Done
 
 -- the answer that is awaited
 record IsAwaited (sc : Scenario) (declared : Transaction) (P : ℕ → Pair) (c : Coordinator) (done : DoneReply) (asked : Query) (server : ServerId) (value : ℤ) : Type 0 where
-  pub awaits : c.phase ≡ phase.Querying done.query None
+  pub staple : Option Staple
+  pub awaits : c.phase ≡ phase.Querying done.query staple
   pub turn : done.turn ≡ c.turn
   pub asked_is : query_at declared done.query ≡ Some asked
   pub server_is : server_of sc asked ≡ Some server
@@ -310,27 +355,44 @@ ran_at_in_pairs : (sc : Scenario) (declared : Transaction) (P : ℕ → Pair) (c
     → Next (site_of sc at declared) (P at) (with_asker (P at) (Some (asker_of at (gone_on c server done asked value now))))
 ran_at_in_pairs sc declared P c done asked server value now h k on at = ran_by sc declared P c done asked server value now at (server.0 == at) refl h k on
 
+-- the number of the next query, once this one has its deed
+numbered_on : (sc : Scenario) (declared : Transaction) (P : ℕ → Pair) (c : Coordinator) (done : DoneReply) (asked : Query) (server : ServerId) (value : ℤ) → CoordinatorPaired sc declared P c
+    → IsAwaited sc declared P c done asked server value → next_number done.query ≡ done.query + 1 → next_number done.query ≡ length (coord.with_deed c server done asked value).deeds + 1
+numbered_on sc declared P c done asked server value h k further =
+    let number : done.query ≡ length c.deeds + 1 = subst (λ (p : Phase). PhaseNumbered p c.deeds) k.awaits h.numbered in
+    let longer : length (coord.with_deed c server done asked value).deeds ≡ length c.deeds + 1 = length_push c.deeds (deed_of done.query asked value) in
+    omega (arith, number, longer, further)
+
 -- the last query ran
-last_asks : (sc : Scenario) (declared : Transaction) (P : ℕ → Pair) (c : Coordinator) (done : DoneReply) (asked : Query) (server : ServerId) (value : ℤ) → CoordinatorPaired sc declared P c
-    → IsAwaited sc declared P c done asked server value → query_at declared (done.query + 1) ≡ None → RowAsks sc declared P (coord.asks (coord.with_deed c server done asked value) span.Commit (coord.commit_round (coord.with_deed c server done asked value)))
-last_asks sc declared P c done asked server value h k none =
+last_asks : (sc : Scenario) (declared : Transaction) (P : ℕ → Pair) (c : Coordinator) (done : DoneReply) (asked : Query) (server : ServerId) (value : ℤ) (proof : Option Verdict) → CoordinatorPaired sc declared P c
+    → IsAwaited sc declared P c done asked server value → query_at declared (done.query + 1) ≡ None → RowAsks sc declared P (coord.asks (with_ran c server done asked value proof) span.Commit (coord.commit_round sc c))
+last_asks sc declared P c done asked server value proof h k none =
     let number : done.query ≡ length c.deeds + 1 = subst (λ (p : Phase). PhaseNumbered p c.deeds) k.awaits h.numbered in
     let all : done.query ≡ length declared.queries = ran_all declared done.query asked k.asked_is none in
     record {
-      next = ran_at_in_pairs sc declared P c done asked server value (phase.Asking span.Commit (coord.commit_round (coord.with_deed c server done asked value))) h k (record { asks = λ e. absurd (cc); all = λ e. sym number ∙ all });
+      next = ran_at_in_pairs sc declared P c done asked server value (phase.Asking span.Commit (coord.commit_round sc c)) h k (record { asks = λ e. absurd (cc); all = λ e. sym number ∙ all });
       numbered = tt;
       requests = (tt, tt);
     }
 
+-- the authority is asked before a further query
+next_staple_asks : (sc : Scenario) (declared : Transaction) (P : ℕ → Pair) (c : Coordinator) (done : DoneReply) (asked : Query) (server : ServerId) (value : ℤ) (proof : Option Verdict) → CoordinatorPaired sc declared P c
+    → IsAwaited sc declared P c done asked server value → next_number done.query ≡ done.query + 1 → RowAsks sc declared P (coord.asks_in (with_ran c server done asked value proof) (phase.Stapling (next_number done.query)))
+next_staple_asks sc declared P c done asked server value proof h k further =
+    record {
+      next = ran_at_in_pairs sc declared P c done asked server value (phase.Stapling (next_number done.query)) h k (record { asks = λ e. absurd (cc); all = λ e. absurd (cc) });
+      numbered = numbered_on sc declared P c done asked server value h k further;
+      requests = (tt, tt);
+    }
+
 -- a further query is asked
-next_asks : (sc : Scenario) (declared : Transaction) (P : ℕ → Pair) (c : Coordinator) (done : DoneReply) (asked : Query) (server next : ServerId) (value : ℤ) → CoordinatorPaired sc declared P c
+next_asks : (sc : Scenario) (declared : Transaction) (P : ℕ → Pair) (c : Coordinator) (done : DoneReply) (asked : Query) (server next : ServerId) (value : ℤ) (proof : Option Verdict) → CoordinatorPaired sc declared P c
     → IsAwaited sc declared P c done asked server value → next_number done.query ≡ done.query + 1 → IsHome sc c (next_number done.query) next
-    → RowAsks sc declared P (coord.sends_query sc (coord.with_deed c server done asked value) (next_number done.query) next)
-next_asks sc declared P c done asked server next value h k further home =
-    let now = coord.with_deed c server done asked value in
+    → RowAsks sc declared P (coord.sends_query sc (with_ran c server done asked value proof) (next_number done.query) None next)
+next_asks sc declared P c done asked server next value proof h k further home =
+    let now = with_ran c server done asked value proof in
     let number : done.query ≡ length c.deeds + 1 = subst (λ (p : Phase). PhaseNumbered p c.deeds) k.awaits h.numbered in
-    let longer : length now.deeds ≡ length c.deeds + 1 = length_push c.deeds (deed_of done.query asked value) in
-    let numbered : next_number done.query ≡ length now.deeds + 1 = omega (arith, number, longer, further) in
+    let numbered : next_number done.query ≡ length now.deeds + 1 = numbered_on sc declared P c done asked server value h k further in
     let place : next_number done.query ≡ suc (length c.deeds + 1) = omega (arith, number, further) in
     let asked_is : query_at declared (next_number done.query) ≡ Some home.asked = query_declared sc c declared (next_number done.query) home.asked h.declared_is home.asked_is in
     let within : length c.deeds + 1 < length declared.queries = slice_get_within declared.queries (length c.deeds + 1) home.asked (subst (λ (n : ℕ). query_at declared n ≡ Some home.asked) place asked_is) in
@@ -341,7 +403,7 @@ next_asks sc declared P c done asked server next value h k further home =
       requests = (
         (
           refl,
-          query_requested sc declared (with_asker (P next.0) (Some (asker_of next.0 (coord.sends_query sc now (next_number done.query) next).state))) now (next_turn now) (next_number done.query) next h.declared_is (event next.0).fits refl numbered
+          query_requested sc declared (with_asker (P next.0) (Some (asker_of next.0 (coord.sends_query sc now (next_number done.query) None next).state))) now (next_turn now) (next_number done.query) None next h.declared_is (event next.0).fits refl numbered
               (record { asked = home.asked; asked_is = home.asked_is; server_is = home.server_is }),
         ),
         tt,
@@ -368,17 +430,8 @@ prepares_on : (sc : Scenario) (declared : Transaction) (P : ℕ → Pair) (c nex
     → ((at : ℕ) → asker_up at next ≡ Some (record { stand = Prepares; turn = next_turn c; epoch = option_flatten (slice_get c.epochs at); deeds = c.deeds }))
     → (at : ℕ) → Next (site_of sc at declared) (P at) (with_asker (P at) (asker_up at next))
 prepares_on sc declared P c next h stands undecided is at =
-    let rises : next_turn c ≡ c.turn + 1 = turn_rises c h.low in
     let old : AskerFits (site_of sc at declared) (P at) (asker_of at c) = of_some (AskerFits (site_of sc at declared) (P at)) (P at).asker (asker_of at c) (asker_there sc declared P c at h undecided) (h.fits at).asker in
-    subst (λ (a : Option Asker). Next (site_of sc at declared) (P at) (with_asker (P at) a)) (sym (is at))
-    (moves (site_of sc at declared) (P at) (asker_of at c) Prepares (next_turn c) (asker_there sc declared P c at h undecided) (h.fits at)
-    (record {
-      answered = λ asks. cc;
-      rises = omega (arith, rises);
-      asks = λ e. absurd (cc);
-      all = λ e. old.all stands;
-      stays = λ e. refl;
-    }))
+    stands_on sc declared P c next Prepares h undecided (λ asks. cc) (λ e. refl) (λ e. absurd (cc)) (λ e. old.all stands) is at
 
 prepares_asks : (sc : Scenario) (declared : Transaction) (P : ℕ → Pair) (c : Coordinator) (round : Round) (staple : Staple) → CoordinatorPaired sc declared P c → c.phase ≡ phase.Asking span.Commit round
     → RowAsks sc declared P (coord.prepares c span.Commit round staple)
@@ -394,11 +447,25 @@ prepares_asks sc declared P c round staple h asking =
           (each_missing (KeepsEpoch c) round.targets kept) (subst (PhaseNames sc declared) asking h.names);
     }
 
+-- a coordinator that judges a round prepares
+record IsJudging (c : Coordinator) : Type 0 where
+  pub prepares : stand_of c.phase ≡ Prepares
+  pub undecided : is_undecided c.phase ≡ true
+
+judging : (c : Coordinator) (mail : Mail) (round : Round) (staple : Option Staple) (reading : Option Reading) → IsJudged c mail round staple reading → IsJudging c
+judging c mail _ _ _ (ByVotes reply round staple server verdicts y whole unread) = record { prepares = ap stand_of y.checking; undecided = ap is_undecided y.checking }
+judging c mail _ _ _ (ByReading reply round k) = record { prepares = ap stand_of k.reading; undecided = ap is_undecided k.reading }
+
 -- the authority is asked before a further round
-updated_asks : (sc : Scenario) (declared : Transaction) (P : ℕ → Pair) (c : Coordinator) (round next : Round) (staple : Staple) → CoordinatorPaired sc declared P c → c.phase ≡ phase.Checking span.Commit round staple
-    → RowAsks sc declared P (coord.asks c span.Commit next)
-updated_asks sc declared P c round next staple h checking =
-    record { next = prepares_on sc declared P c (coord.asks c span.Commit next).state h (ap stand_of checking) (ap is_undecided checking) (λ at. refl); numbered = tt; requests = (tt, tt) }
+updated_asks : (sc : Scenario) (declared : Transaction) (P : ℕ → Pair) (c : Coordinator) (next : Round) → CoordinatorPaired sc declared P c → IsJudging c → RowAsks sc declared P (coord.asks c span.Commit next)
+updated_asks sc declared P c next h k =
+    record { next = prepares_on sc declared P c (coord.asks c span.Commit next).state h k.prepares k.undecided (λ at. refl); numbered = tt; requests = (tt, tt) }
+
+-- the master is read once all have replied
+probes_asks : (sc : Scenario) (declared : Transaction) (P : ℕ → Pair) (c : Coordinator) (round replied : Round) (staple : Staple) → CoordinatorPaired sc declared P c → c.phase ≡ phase.Checking span.Commit round staple
+    → RowAsks sc declared P (coord.probes c (phase.Reading span.Commit replied))
+probes_asks sc declared P c round replied staple h checking =
+    record { next = prepares_on sc declared P c (coord.probes c (phase.Reading span.Commit replied)).state h (ap stand_of checking) (ap is_undecided checking) (λ at. refl); numbered = tt; requests = (tt, tt) }
 
 -- ---- Vote, and the end
 
@@ -430,14 +497,15 @@ AnswerPairs sc declared P (actor.Server at) (body.Done done) = DoneFits (site_of
 AnswerPairs sc declared P (actor.Server at) (body.Verdicts reply) = VerdictsFits (site_of sc at.0 declared) (P at.0) reply
 AnswerPairs sc declared P _ _ = Unit {0}
 
-answer_awaited : (sc : Scenario) (declared : Transaction) (P : ℕ → Pair) (c : Coordinator) (mail : Mail) (done : DoneReply) (server : ServerId) (asked : Query) (value : ℤ) → CoordinatorPaired sc declared P c
-    → AnswerPairs sc declared P mail.letter.from mail.letter.body → server.0 < length sc.servers → IsRanAnswer sc c mail done server asked value → IsAwaited sc declared P c done asked server value
-answer_awaited sc declared P c mail done server asked value h m exists k =
-    let awaits : c.phase ≡ phase.Querying done.query None = awaits_is c c.phase done k.awaited k.plain in
-    let present : awaits_query c (phase.Querying done.query None) done ≡ true = subst (λ (p : Phase). awaits_query c p done ≡ true) awaits k.awaited in
+answer_awaited : (sc : Scenario) (declared : Transaction) (P : ℕ → Pair) (c : Coordinator) (mail : Mail) (done : DoneReply) (server : ServerId) (asked : Query) (value : ℤ) (proof : Option Verdict) → CoordinatorPaired sc declared P c
+    → AnswerPairs sc declared P mail.letter.from mail.letter.body → server.0 < length sc.servers → IsRanAnswer sc c mail done server asked value proof → IsAwaited sc declared P c done asked server value
+answer_awaited sc declared P c mail done server asked value proof h m exists k =
+    let awaits = awaits_is c c.phase done k.awaited in
+    let present : awaits_query c (phase.Querying done.query awaits.0) done ≡ true = subst (λ (p : Phase). awaits_query c p done ≡ true) awaits.1 k.awaited in
     let fits : DoneFits (site_of sc server.0 declared) (P server.0) done = subst (λ (from : Actor). AnswerPairs sc declared P from (body.Done done)) (from_server mail.letter.from server k.from_is) (subst (AnswerPairs sc declared P mail.letter.from) k.said_is m) in
     record {
-      awaits = awaits;
+      staple = awaits.0;
+      awaits = awaits.1;
       turn = eqb-true done.turn c.turn (and_parts (done.turn == c.turn) (done.query == done.query) present).0;
       asked_is = query_declared sc c declared done.query asked h.declared_is k.asked_is;
       server_is = k.server_is;
@@ -463,7 +531,10 @@ coordinator_row_asks sc declared P c mail valid homes h m =
     coordinator_by sc c mail (RowAsks sc declared P)
     (record {
       ignored = ignores_asks sc declared P c h;
+      stapled = λ tell query server k home.
+          query_asks sc declared P c query (Some (coord.staple_of tell mail.sent)) server h (stapling_free sc declared P c query h k.stapling) (home_is sc c query server home);
       sends_query = λ query now next passed moves home. sent query now next passed home;
+      asks_staple = λ query now passed moves. asked_first query now passed;
       commit_rounds = λ query now passed moves. brought query now passed moves;
       told = λ tell round k. prepares_asks sc declared P c round (coord.staple_of tell mail.sent) h k.asking;
       counted = λ reply round staple server verdicts y. record {
@@ -471,9 +542,10 @@ coordinator_row_asks sc declared P c mail valid homes h m =
         numbered = tt;
         requests = tt;
       };
+      probed = λ reply round staple server verdicts y whole reads. probes_asks sc declared P c round (after_reply round server verdicts) staple h y.checking;
       decides = λ instances rounds passed. ends_asks sc declared P c (coord.commits (with_gained c (gains_instances c instances)) rounds).state outcome.Commit c.servers h refl tt;
       aborted = λ why ended. ends_asks sc declared P c (coord.aborts c why).state outcome.Abort c.servers h refl tt;
-      updated = λ reply round staple server verdicts named y e. updated_asks sc declared P c round (after_judgement (after_reply round server verdicts) None) staple h y.checking;
+      updated = λ round staple reading named j e. updated_asks sc declared P c (after_judgement round reading) h (judging c mail round staple reading j);
       acknowledged = λ ack ended awaited server a. record {
         next = λ at. still_asks sc declared P c (record c { phase = phase.Ending ended (coord.without awaited server) }) at h (sym (ap (λ (p : Phase). if is_undecided p then Some (asker_of at c) else None) a.ending));
         numbered = tt;
@@ -486,28 +558,32 @@ coordinator_row_asks sc declared P c mail valid homes h m =
       };
     })
   where
-    awaited : (done : DoneReply) (server : ServerId) (asked : Query) (value : ℤ) → IsRanAnswer sc c mail done server asked value → IsAwaited sc declared P c done asked server value
-    awaited done server asked value k = answer_awaited sc declared P c mail done server asked value h m (server_exists_in_pairs sc asked server valid k.server_is) k
+    awaited : (done : DoneReply) (server : ServerId) (asked : Query) (value : ℤ) (proof : Option Verdict) → IsRanAnswer sc c mail done server asked value proof → IsAwaited sc declared P c done asked server value
+    awaited done server asked value proof k = answer_awaited sc declared P c mail done server asked value proof h m (server_exists_in_pairs sc asked server valid k.server_is) k
 
     sent : (query : ℕ) (now : Gained) (next : ServerId) → IsPassed sc c mail (point.Ran query) now → coord.home_of sc c (next_number query) ≡ Some next
-        → RowAsks sc declared P (coord.sends_query sc (with_gained c now) (next_number query) next)
-    sent _ _ next (QueryRan done server asked value k) home =
-        next_asks sc declared P c done asked server next value h (awaited done server asked value k) (next_is sc c done.query asked homes k.asked_is) (home_is sc c (next_number done.query) next home)
+        → RowAsks sc declared P (coord.sends_query sc (with_gained c now) (next_number query) None next)
+    sent _ _ next (QueryRan done server asked value proof k) home =
+        next_asks sc declared P c done asked server next value proof h (awaited done server asked value proof k) (next_is sc c done.query asked homes k.asked_is) (home_is sc c (next_number done.query) next home)
+
+    asked_first : (query : ℕ) (now : Gained) → IsPassed sc c mail (point.Ran query) now → RowAsks sc declared P (coord.asks_in (with_gained c now) (phase.Stapling (next_number query)))
+    asked_first _ _ (QueryRan done server asked value proof k) =
+        next_staple_asks sc declared P c done asked server value proof h (awaited done server asked value proof k) (next_is sc c done.query asked homes k.asked_is)
 
     brought : (query : ℕ) (now : Gained) → IsPassed sc c mail (point.Ran query) now → coord.move_after sc c query ≡ move.CommitRounds
-        → RowAsks sc declared P (coord.asks (with_gained c now) span.Commit (coord.commit_round c))
-    brought _ _ (QueryRan done server asked value k) moves =
-        last_asks sc declared P c done asked server value h (awaited done server asked value k) (no_query sc c declared (done.query + 1) h.declared_is (last_is sc c done.query asked homes k.asked_is moves))
+        → RowAsks sc declared P (coord.asks (with_gained c now) span.Commit (coord.commit_round sc c))
+    brought _ _ (QueryRan done server asked value proof k) moves =
+        last_asks sc declared P c done asked server value proof h (awaited done server asked value proof k) (no_query sc c declared (done.query + 1) h.declared_is (last_is sc c done.query asked homes k.asked_is moves))
 
 -- ---- timers
 
 -- a query that is sent again is the one that is asked, in its own turn
-query_again_fits : (sc : Scenario) (declared : Transaction) (P : ℕ → Pair) (c : Coordinator) (number : ℕ) (server : ServerId) → CoordinatorPaired sc declared P c → c.phase ≡ phase.Querying number None
-    → coord.home_of sc c number ≡ Some server → QueryFits (site_of sc server.0 declared) (P server.0) (coord.query_request sc c c.turn server number)
-query_again_fits sc declared P c number server h querying home =
+query_again_fits : (sc : Scenario) (declared : Transaction) (P : ℕ → Pair) (c : Coordinator) (number : ℕ) (staple : Option Staple) (server : ServerId) → CoordinatorPaired sc declared P c → c.phase ≡ phase.Querying number staple
+    → coord.home_of sc c number ≡ Some server → QueryFits (site_of sc server.0 declared) (P server.0) (coord.query_request sc c c.turn server number staple)
+query_again_fits sc declared P c number staple server h querying home =
     let is : (P server.0).asker ≡ Some (asking_of server.0 c c.turn) = asker_there sc declared P c server.0 h (ap is_undecided querying)
     ∙ ap (λ (s : Stand). Some (record { stand = s; turn = c.turn; epoch = option_flatten (slice_get c.epochs server.0); deeds = c.deeds })) (ap stand_of querying) in
-    query_requested sc declared (P server.0) c c.turn number server h.declared_is (h.fits server.0) is (subst (λ (p : Phase). PhaseNumbered p c.deeds) querying h.numbered) (home_is sc c number server home)
+    query_requested sc declared (P server.0) c c.turn number staple server h.declared_is (h.fits server.0) is (subst (λ (p : Phase). PhaseNumbered p c.deeds) querying h.numbered) (home_is sc c number server home)
 
 -- the awaited servers are asked to prepare again
 prepares_again_ask : (sc : Scenario) (declared : Transaction) (P : ℕ → Pair) (c : Coordinator) (round : Round) (staple : Staple) → CoordinatorPaired sc declared P c → c.phase ≡ phase.Checking span.Commit round staple
@@ -525,8 +601,10 @@ repeats_ask sc declared P c h =
     timer_by sc c (λ (letters : List Letter). Each (λ (letter : Letter). AskPairs sc declared c.txn P letter.to letter.body) letters)
     (record {
       silent = tt;
-      queried = λ number server querying home. ((refl, query_again_fits sc declared P c number server h querying home), tt);
+      stapled = λ number stapling. (tt, tt);
+      queried = λ number staple server querying home. ((refl, query_again_fits sc declared P c number staple server h querying home), tt);
       asked = λ over round asking. (tt, tt);
+      read = λ over round reading. (tt, tt);
       prepared = λ round staple checking. prepares_again_ask sc declared P c round staple h checking;
       ordered = λ ended awaited ending. orders_ask sc declared c.txn P c ended awaited;
     })

@@ -10,10 +10,11 @@ use Rattle.tp_lock.specs.declared.entry.Grant.{Grant}
 use Rattle.tp_model.specs.Ids.{same_txn}
 use Rattle.tp_model.specs.Queries.{query_at}
 use Rattle.tp_model.specs.Words.actor
+use Rattle.tp_model.specs.Words.answer
 use Rattle.tp_model.specs.Words.body
 use Rattle.tp_model.specs.Words.log
 use Rattle.tp_model.specs.Words.query
-use Rattle.tp_model.specs.Words.{Body, DecideRequest, Deed, DoneReply, Letter, Mail, No, PrepareRequest, Prepared, PushNotice, Query, QueryRequest, Record, Scenario, ServerId, Settled, Transaction, TxnId}
+use Rattle.tp_model.specs.Words.{Answer, Body, DecideRequest, Deed, DoneReply, Letter, Mail, No, PrepareRequest, Prepared, PushNotice, Query, QueryRequest, Record, Scenario, ServerId, Settled, Transaction, TxnId, Verdict}
 use Rattle.tp_runs.proofs.agreement.Server.{ServerAgrees, open_unsettled, prepared_now}
 use Rattle.tp_runs.proofs.basics.Ids.{same_txn_from, same_txn_is}
 use Rattle.tp_types.proofs.EachLemmas.{each_as, each_found, each_more, none_if_not_some, set_here}
@@ -26,7 +27,7 @@ use Rattle.tp_runs.proofs.pairs.Actors.{AllFit, AllNext, pair_of, pair_up, site_
 use Rattle.tp_runs.proofs.pairs.Ends as end
 use Rattle.tp_runs.proofs.pairs.Ends.{ordered}
 use Rattle.tp_runs.proofs.pairs.Entries.{begun, changed, denies, keeps, makes, with_entry}
-use Rattle.tp_runs.proofs.pairs.Fits.{AnsweredFits, AreNoneOrAll, DoneFits, EntryFits, Fits, Live, PrepareFits, QueryFits, QueryLive, ValidateFits, VerdictsFits, VoteFits}
+use Rattle.tp_runs.proofs.pairs.Fits.{AnswerFits, AnsweredFits, AreNoneOrAll, DoneFits, EntryFits, Fits, Live, PrepareFits, QueryFits, QueryLive, ValidateFits, VerdictsFits, VoteFits, Waits}
 use Rattle.tp_runs.proofs.pairs.Follows.{Next, done_follows, next_both, next_same, query_follows, verdicts_follow}
 use Rattle.tp_runs.proofs.basics.Found.{answer_in, of_some, some_as}
 use Rattle.tp_runs.proofs.pairs.Pair.{Asker, Pair}
@@ -36,7 +37,7 @@ use Rattle.tp_runs.proofs.pairs.Votes as vote
 use Rattle.tp_runs.proofs.pairs.Votes.{IsVoteOn, forces, with_ballot}
 use Rattle.tp_runs.proofs.basics.Folds.{set_elsewhere}
 use Rattle.tp_runs.proofs.deeds.Runs.{deed_asked, deed_at}
-use Rattle.tp_server.proofs.Rows.{AreRightWaits, IsFirstHere, IsFurther, IsResumed, resuming, server_by, unwaiting}
+use Rattle.tp_server.proofs.Rows.{AreRightWaits, IsAsking, IsFirstHere, IsFurther, IsResumed, resuming, server_by, unwaiting}
 use Rattle.tp_recover.specs.Log.{epoch_in, preparation_in, prepared_in, settled_in, settlement_in, voted_in, while_unsettled}
 use Rattle.tp_machine.specs.Machine.{log_with}
 use Rattle.tp_model.specs.Deeds.{deed_of}
@@ -46,7 +47,7 @@ use Rattle.tp_coord.specs.Sums.{clamped_sum, registers_after, sum_asked}
 use Rattle.tp_server.specs.declared.server.Ballot.{Ballot}
 use Rattle.tp_server.specs.declared.server.Entry.{Entry}
 use Rattle.tp_server.specs.Row as server
-use Rattle.tp_server.specs.Row.{ack_letter, age_of, answer_to, answers, asked_query, ballot_of, casts, closes, completes, died_reply, dies, done_letter, done_reply, entry_after, entry_at, followed_by, learns, no_letter, prepared_record, refused_as, restarted_reply, restarts, server_row, settled_as, told_of, value_of_run, waits, yes_letter}
+use Rattle.tp_server.specs.Row.{ack_letter, age_of, answer_to, answers, answers_with, asked_query, ballot_of, casts, closes, completes, entry_after, entry_at, followed_by, learns, no_letter, prepared_record, ran_as, refused_as, reply_letter, reply_of, restarts, server_row, settled_as, told_of, value_of_run, waits, with_answer, yes_letter}
 use Rattle.tp_server.specs.State.{Server}
 use Rattle.tp_server.specs.Verdicts.{with_wants, verdicts_on}
 
@@ -190,6 +191,11 @@ still_next sc A s kept h txn declared found = next_same (site_of sc s.server.0 d
 ignores_pairs : (sc : Scenario) (A : TxnId → Option Asker) (s : Server) (kept : List Record) → ServerPaired sc A s kept → RowPairs sc A s kept (ignores s)
 ignores_pairs sc A s kept h = record { next = still_next sc A s kept h; places = h.places; replies = tt }
 
+-- the answer says that its query ran
+abbrev has_run : Answer → Bool
+has_run (answer.Ran value proof) = true
+has_run _ = false
+
 -- an answer that a query does not run is of the request's turn and query
 answers_query : (s : Site) (p : Pair) (q : QueryRequest) (done : DoneReply) → done.turn ≡ q.turn → done.query ≡ q.query → QueryFits s p q → AnsweredFits s p done
 answers_query s p q done turn number h =
@@ -200,13 +206,21 @@ answers_query s p q done turn number h =
       live = some_as (QueryLive s q h.before) (Live done.turn h.before) p.asker (λ a is live. subst (λ (t : ℕ). Live t h.before a) (sym turn) live.live) h.live;
     }
 
+-- such an answer fits
+unrun_fits : (s : Site) (p : Pair) (done : DoneReply) (given : Answer) → has_run given ≡ false → AnsweredFits s p done → AnswerFits s p done given
+unrun_fits s p done (answer.Ran value proof) unrun h = absurd (cc)
+unrun_fits s p done _ unrun h = h
+
+answers_unrun : (s : Site) (p : Pair) (q : QueryRequest) (epoch : ℕ) (given : Answer) → has_run given ≡ false → QueryFits s p q → DoneFits s p (reply_of q epoch given)
+answers_unrun s p q epoch given unrun h = unrun_fits s p (reply_of q epoch given) given unrun (answers_query s p q (reply_of q epoch given) refl refl h)
+
 restarts_pairs : (sc : Scenario) (A : TxnId → Option Asker) (s : Server) (kept : List Record) (q : QueryRequest) → ServerPaired sc A s kept → RequestPairs sc s.server A (λ txn. pair_up txn (A txn) s kept) (body.Query q)
     → RowPairs sc A s kept (restarts s q)
 restarts_pairs sc A s kept q h asked =
     record {
       next = still_next sc A s kept h;
       places = h.places;
-      replies = (record { from_is = refl; says = λ declared found. answers_query (site_of sc s.server.0 declared) (pair_up q.txn (A q.txn) s kept) q (restarted_reply q s.epoch) refl refl (asked declared found) }, tt);
+      replies = (record { from_is = refl; says = λ declared found. answers_unrun (site_of sc s.server.0 declared) (pair_up q.txn (A q.txn) s kept) q s.epoch answer.Restarted refl (asked declared found) }, tt);
     }
 
 acknowledges_pairs : (sc : Scenario) (A : TxnId → Option Asker) (s : Server) (kept : List Record) (d : DecideRequest) → ServerPaired sc A s kept → RowPairs sc A s kept (sends s (ack_letter s d.txn ∷ []))
@@ -268,14 +282,18 @@ record IsRunOf (sc : Scenario) (s : Server) (q : QueryRequest) (query : Query) (
   pub asked_is : asked_query sc q ≡ Some query
   pub value_is : value_of_run s q query ≡ Some value
 
-answer_is : (sc : Scenario) (s : Server) (p : Site) (q : QueryRequest) (query : Query) (value : ℤ) (entry : Entry) → IsRunOf sc s q query value → query_at p.txn q.query ≡ Some query
-    → IsAnswer p entry q (done_reply q entry.epoch (deed_of q.query query value)) value
-answer_is sc s p q query value entry k found =
+-- the reply to a query that ran, with its proof if it has one
+abbrev ran_reply : QueryRequest → Entry → Deed → Option Verdict → DoneReply
+ran_reply q entry deed proof = reply_of q entry.epoch (ran_as deed proof)
+
+answer_is : (sc : Scenario) (s : Server) (p : Site) (q : QueryRequest) (query : Query) (value : ℤ) (proof : Option Verdict) (entry : Entry) → IsRunOf sc s q query value → query_at p.txn q.query ≡ Some query
+    → IsAnswer p entry q (ran_reply q entry (deed_of q.query query value) proof) value
+answer_is sc s p q query value proof entry k found =
     record {
       turn = refl;
       number = refl;
       epoch = refl;
-      verdict = None;
+      verdict = proof;
       answer = refl;
       asked = λ deeds asked. value_asked s q query value p.txn deeds (query_at p.txn q.query) refl found k.value_is asked;
     }
@@ -289,23 +307,23 @@ same_epochs q None entry e = tt
 same_epochs q (Some named) entry e = eqb-true named entry.epoch (not-false (named == entry.epoch) e)
 
 -- a query runs at an entry that is there
-runs_further : (sc : Scenario) (A : TxnId → Option Asker) (s : Server) (kept : List Record) (q : QueryRequest) (query : Query) (entry : Entry) (value : ℤ) (declared : Transaction) → ServerPaired sc A s kept
+runs_further : (sc : Scenario) (A : TxnId → Option Asker) (s : Server) (kept : List Record) (q : QueryRequest) (query : Query) (entry : Entry) (value : ℤ) (proof : Option Verdict) (declared : Transaction) → ServerPaired sc A s kept
     → IsRunOf sc s q query value → slice_get sc.txns q.txn.0 ≡ Some declared → query_at declared q.query ≡ Some query → QueryFits (site_of sc s.server.0 declared) (pair_up q.txn (A q.txn) s kept) q → IsFurther s q entry
     → Next (site_of sc s.server.0 declared) (pair_up q.txn (A q.txn) s kept)
-    (with_entry (pair_up q.txn (A q.txn) s kept) (ran entry (deed_at declared q.query value) (done_reply q entry.epoch (deed_of q.query query value))))
-runs_further sc A s kept q query entry value declared h k exists found asked further =
+    (with_entry (pair_up q.txn (A q.txn) s kept) (ran entry (deed_at declared q.query value) (ran_reply q entry (deed_of q.query query value) proof)))
+runs_further sc A s kept q query entry value proof declared h k exists found asked further =
     let site = site_of sc s.server.0 declared in
     let p = pair_up q.txn (A q.txn) s kept in
-    runs_at_once site p entry q (done_reply q entry.epoch (deed_of q.query query value)) value refl further.found (h.fits q.txn declared exists) asked (same_epochs q q.epoch entry further.same_epoch)
-    (same_answer q.query entry.answers ∙ further.unanswered) (none_if_not_some entry.ballot further.unvoted) (answer_is sc s site q query value entry k found)
+    runs_at_once site p entry q (ran_reply q entry (deed_of q.query query value) proof) value refl further.found (h.fits q.txn declared exists) asked (same_epochs q q.epoch entry further.same_epoch)
+    (same_answer q.query entry.answers ∙ further.unanswered) (none_if_not_some entry.ballot further.unvoted) (answer_is sc s site q query value proof entry k found)
 
 -- or at the one that is made for it
-runs_first : (sc : Scenario) (A : TxnId → Option Asker) (s : Server) (kept : List Record) (sent : ℕ) (q : QueryRequest) (query : Query) (entry : Entry) (value : ℤ) (declared : Transaction) → ServerPaired sc A s kept
+runs_first : (sc : Scenario) (A : TxnId → Option Asker) (s : Server) (kept : List Record) (sent : ℕ) (q : QueryRequest) (query : Query) (entry : Entry) (value : ℤ) (proof : Option Verdict) (declared : Transaction) → ServerPaired sc A s kept
     → settled_in q.txn kept ≡ None → IsRunOf sc s q query value → slice_get sc.txns q.txn.0 ≡ Some declared → query_at declared q.query ≡ Some query
     → QueryFits (site_of sc s.server.0 declared) (pair_up q.txn (A q.txn) s kept) q → IsFirstHere s sent q entry
     → Next (site_of sc s.server.0 declared) (pair_up q.txn (A q.txn) s kept)
-    (with_entry (pair_up q.txn (A q.txn) s kept) (ran entry (deed_at declared q.query value) (done_reply q entry.epoch (deed_of q.query query value))))
-runs_first sc A s kept sent q query entry value declared h fresh k exists found asked first =
+    (with_entry (pair_up q.txn (A q.txn) s kept) (ran entry (deed_at declared q.query value) (ran_reply q entry (deed_of q.query query value) proof)))
+runs_first sc A s kept sent q query entry value proof declared h fresh k exists found asked first =
     let site = site_of sc s.server.0 declared in
     let p = pair_up q.txn (A q.txn) s kept in
     let age = age_of q sent in
@@ -313,11 +331,11 @@ runs_first sc A s kept sent q query entry value declared h fresh k exists found 
     let made : Next site p (with_entry p (begun age p.epoch)) = makes site p age refl unsettled first.no_entry (h.fits q.txn declared exists) in
     let p1 = with_entry p (begun age p.epoch) in
     let named : IfSome q.epoch (λ (e : ℕ). e ≡ p.epoch) = subst (λ (o : Option ℕ). IfSome o (λ (e : ℕ). e ≡ p.epoch)) (sym (none_if_not_some q.epoch first.unnamed)) tt in
-    let done = done_reply q p.epoch (deed_of q.query query value) in
+    let done = ran_reply q (begun age p.epoch) (deed_of q.query query value) proof in
     let ran_now : Next site p1 (with_entry p1 (ran (begun age p.epoch) (deed_at declared q.query value) done)) =
-    runs_at_once site p1 (begun age p.epoch) q done value refl refl made.fits (query_follows site p p1 q made.follows asked) named refl refl (answer_is sc s site q query value (begun age p.epoch) k found) in
+    runs_at_once site p1 (begun age p.epoch) q done value refl refl made.fits (query_follows site p p1 q made.follows asked) named refl refl (answer_is sc s site q query value proof (begun age p.epoch) k found) in
     let entry_is : begun age p.epoch ≡ entry = ap (begun age) (sym h.epoch_is) ∙ sym first.entry_is in
-    subst (λ (e : Entry). Next site p (with_entry p (ran e (deed_at declared q.query value) (done_reply q e.epoch (deed_of q.query query value))))) entry_is
+    subst (λ (e : Entry). Next site p (with_entry p (ran e (deed_at declared q.query value) (ran_reply q e (deed_of q.query query value) proof)))) entry_is
     (next_both site p p1 (with_entry p1 (ran (begun age p.epoch) (deed_at declared q.query value) done)) made ran_now)
 
 -- nothing waits at the entry
@@ -325,13 +343,13 @@ idle_entry : (s : Server) (sent : ℕ) (q : QueryRequest) (entry : Entry) → Is
 idle_entry s sent q entry place =
     ⊎_elim (λ (first : IsFirstHere s sent q entry). ap (λ (e : Entry). e.waiting) first.entry_is) (λ (further : IsFurther s q entry). none_if_not_some entry.waiting further.idle) place
 
-ran_is : (q : QueryRequest) (entry : Entry) (deed : Deed) → entry.waiting ≡ None → ran entry deed (done_reply q entry.epoch deed) ≡ entry_after q entry deed
-ran_is q entry deed idle =
+ran_is : (q : QueryRequest) (entry : Entry) (deed : Deed) (proof : Option Verdict) → entry.waiting ≡ None → ran entry deed (ran_reply q entry deed proof) ≡ entry_after q entry deed proof
+ran_is q entry deed proof idle =
     ap (λ (waiting : Option QueryRequest).
     record {
       age = entry.age;
       epoch = entry.epoch;
-      answers = entry.answers ++ done_reply q entry.epoch deed ∷ [];
+      answers = entry.answers ++ ran_reply q entry deed proof ∷ [];
       waiting = waiting;
       deeds = entry.deeds ++ deed ∷ [];
       ballot = entry.ballot;
@@ -410,43 +428,43 @@ waits_pairs sc A s kept sent q entry h fresh exists place asked =
     let e = entered sc A s kept sent q entry declared h fresh found (asked declared found) place in
     next_both site p (with_entry p entry) (with_entry p (changed entry (Some q) entry.answers)) e.next (keeps site (with_entry p entry) entry q refl e.next.fits e.fits e.epoch e.fresh e.unvoted)) tt
 
--- a query for which an older transaction stands in the way
-dies_pairs : (sc : Scenario) (A : TxnId → Option Asker) (s : Server) (kept : List Record) (sent : ℕ) (q : QueryRequest) (entry : Entry) (other : TxnId) → ServerPaired sc A s kept → settled_in q.txn kept ≡ None
-    → q.txn.0 < length sc.txns → IsFirstHere s sent q entry ⊎ IsFurther s q entry
-    → ((declared : Transaction) → slice_get sc.txns q.txn.0 ≡ Some declared → QueryFits (site_of sc s.server.0 declared) (pair_up q.txn (A q.txn) s kept) q) → RowPairs sc A s kept (dies s q entry other)
-dies_pairs sc A s kept sent q entry other h fresh exists place asked =
-    let answers = entry.answers ++ died_reply q entry.epoch other ∷ [] in
-    let idle : changed entry None answers ≡ changed entry entry.waiting answers = ap (λ (waiting : Option QueryRequest). changed entry waiting answers) (sym (idle_entry s sent q entry place)) in
+-- a query that does not run, and is answered
+denies_pairs : (sc : Scenario) (A : TxnId → Option Asker) (s : Server) (kept : List Record) (sent : ℕ) (q : QueryRequest) (entry : Entry) (given : Answer) → ServerPaired sc A s kept → settled_in q.txn kept ≡ None
+    → q.txn.0 < length sc.txns → IsFirstHere s sent q entry ⊎ IsFurther s q entry → has_run given ≡ false
+    → ((declared : Transaction) → slice_get sc.txns q.txn.0 ≡ Some declared → QueryFits (site_of sc s.server.0 declared) (pair_up q.txn (A q.txn) s kept) q) → RowPairs sc A s kept (answers_with s q entry given)
+denies_pairs sc A s kept sent q entry given h fresh exists place unrun asked =
+    let reply = reply_of q entry.epoch given in
+    let new = with_answer q entry given in
+    let idle : changed entry None new.answers ≡ new = ap (λ (waiting : Option QueryRequest). changed entry waiting new.answers) (sym (idle_entry s sent q entry place)) in
     let p = pair_up q.txn (A q.txn) s kept in
-    let reply = died_reply q entry.epoch other in
-    let event : (declared : Transaction) → slice_get sc.txns q.txn.0 ≡ Some declared → Next (site_of sc s.server.0 declared) p (with_entry p (changed entry entry.waiting answers)) = λ declared found.
+    let event : (declared : Transaction) → slice_get sc.txns q.txn.0 ≡ Some declared → Next (site_of sc s.server.0 declared) p (with_entry p new) = λ declared found.
     let site = site_of sc s.server.0 declared in
     let e = entered sc A s kept sent q entry declared h fresh found (asked declared found) place in
-    subst (λ (new : Entry). Next site p (with_entry p new)) idle
-    (next_both site p (with_entry p entry) (with_entry p (changed entry None answers)) e.next
-    (denies site (with_entry p entry) entry reply refl e.next.fits (answers_query site (with_entry p entry) q reply refl refl e.fits)))
+    subst (λ (x : Entry). Next site p (with_entry p x)) idle
+    (next_both site p (with_entry p entry) (with_entry p (changed entry None new.answers)) e.next
+    (denies site (with_entry p entry) entry reply refl e.next.fits (answers_unrun site (with_entry p entry) q entry.epoch given unrun e.fits)))
     in
-    entry_pairs sc A s kept q.txn (changed entry entry.waiting answers) _ h exists event (
+    entry_pairs sc A s kept q.txn new _ h exists event (
       record {
         from_is = refl;
         says = λ declared found.
             let site = site_of sc s.server.0 declared in
-            let now = pair_up q.txn (A q.txn) (server.with_entry s q.txn (Some (changed entry entry.waiting answers))) kept in
-            answers_query site now q reply refl refl (entry_asked sc A s kept q.txn (changed entry entry.waiting answers) h exists declared q (query_follows site p (with_entry p (changed entry entry.waiting answers)) q (event declared found).follows (asked declared found)));
+            let now = pair_up q.txn (A q.txn) (server.with_entry s q.txn (Some new)) kept in
+            answers_unrun site now q entry.epoch given unrun (entry_asked sc A s kept q.txn new h exists declared q (query_follows site p (with_entry p new) q (event declared found).follows (asked declared found)));
       },
       tt,
     )
 
 -- a query that runs
-runs_pairs : (sc : Scenario) (A : TxnId → Option Asker) (s : Server) (kept : List Record) (sent : ℕ) (q : QueryRequest) (query : Query) (entry : Entry) (value : ℤ) → ServerPaired sc A s kept → settled_in q.txn kept ≡ None
+runs_pairs : (sc : Scenario) (A : TxnId → Option Asker) (s : Server) (kept : List Record) (sent : ℕ) (q : QueryRequest) (query : Query) (entry : Entry) (value : ℤ) (proof : Option Verdict) → ServerPaired sc A s kept → settled_in q.txn kept ≡ None
     → IsRunOf sc s q query value → IsFirstHere s sent q entry ⊎ IsFurther s q entry
     → ((declared : Transaction) → slice_get sc.txns q.txn.0 ≡ Some declared → QueryFits (site_of sc s.server.0 declared) (pair_up q.txn (A q.txn) s kept) q)
-    → RowPairs sc A s kept (completes s q query entry (deed_of q.query query value))
-runs_pairs sc A s kept sent q query entry value h fresh k place asked =
+    → RowPairs sc A s kept (completes s q query entry (deed_of q.query query value) proof)
+runs_pairs sc A s kept sent q query entry value proof h fresh k place asked =
     let P : TxnId → Pair = λ txn. pair_up txn (A txn) s kept in
     let deed = deed_of q.query query value in
-    let new = entry_after q entry deed in
-    let now = (completes s q query entry deed).state in
+    let new = entry_after q entry deed proof in
+    let now = (completes s q query entry deed proof).state in
     let Q : TxnId → Pair = λ txn. pair_up txn (A txn) now kept in
     let exists = k.exists in
     let places = h.places in
@@ -455,14 +473,14 @@ runs_pairs sc A s kept sent q query entry value h fresh k place asked =
     let site = site_of sc s.server.0 declared in
     let p = P q.txn in
     let query_is : query_at declared q.query ≡ Some query = sym (ap (λ (x : Option Transaction). option_and_then (λ (d : Transaction). query_at d q.query) x) found) ∙ k.asked_is in
-    let done = done_reply q entry.epoch deed in
+    let done = ran_reply q entry deed proof in
     let run : Next site p (with_entry p (ran entry (deed_at declared q.query value) done)) =
-    ⊎_elim (λ (first : IsFirstHere s sent q entry). runs_first sc A s kept sent q query entry value declared h fresh k found query_is (asked declared found) first)
-    (λ (further : IsFurther s q entry). runs_further sc A s kept q query entry value declared h k found query_is (asked declared found) further) place in
+    ⊎_elim (λ (first : IsFirstHere s sent q entry). runs_first sc A s kept sent q query entry value proof declared h fresh k found query_is (asked declared found) first)
+    (λ (further : IsFurther s q entry). runs_further sc A s kept q query entry value proof declared h k found query_is (asked declared found) further) place in
     let own : deed_at declared q.query value ≡ deed = ap (λ (x : Option Query). deed_asked q.query x value) query_is in
     let whole : with_entry p (ran entry (deed_at declared q.query value) done) ≡ Q q.txn =
     ap (λ (n : Option Entry). made_pair (A q.txn) (epoch_in kept) (settled_in q.txn kept) n (prepared_in q.txn kept))
-    (ap (λ (d : Deed). Some (ran entry d done)) own ∙ (ap Some (ran_is q entry deed (idle_entry s sent q entry place)) ∙ sym there)) in
+    (ap (λ (d : Deed). Some (ran entry d done)) own ∙ (ap Some (ran_is q entry deed proof (idle_entry s sent q entry place)) ∙ sym there)) in
     subst (Next site p) whole run
     in
     record {
@@ -474,7 +492,7 @@ runs_pairs sc A s kept sent q query entry value h fresh k place asked =
           says = λ declared found.
               let site = site_of sc s.server.0 declared in
               let fits : EntryFits site (Q q.txn) new = of_some (EntryFits site (Q q.txn)) (Q q.txn).entry new there (event declared found).fits.entry in
-              last_of (DoneFits site (Q q.txn)) entry.answers (done_reply q entry.epoch deed) fits.answers;
+              last_of (DoneFits site (Q q.txn)) entry.answers (ran_reply q entry deed proof) fits.answers;
         },
         tt,
       );
@@ -495,46 +513,65 @@ reply_stays sc at P Q next _ h = tt
 pub all_both : (sc : Scenario) (at : ℕ) (P Q R : TxnId → Pair) → AllNext sc at P Q → AllNext sc at Q R → AllNext sc at P R
 all_both sc at P Q R first second txn declared found = next_both (site_of sc at declared) (P txn) (Q txn) (R txn) (first txn declared found) (second txn declared found)
 
-resumes_pairs : (sc : Scenario) (A : TxnId → Option Asker) (s : Server) (kept : List Record) (effect : Effect Server) (grant : Grant) (q : QueryRequest) (query : Query) (entry : Entry) (value : ℤ) → ServerPaired sc A s kept
-    → IsResumed sc s.server effect.state grant q query entry value → RowPairs sc A s kept effect → RowPairs sc A s kept (followed_by effect (resuming effect.state q query entry value))
-resumes_pairs sc A s kept effect grant q query entry value start k h =
+-- what waited goes on, after what was done before: its entry becomes this, with this answer as its last
+goes_on_pairs : (sc : Scenario) (A : TxnId → Option Asker) (s : Server) (kept : List Record) (effect : Effect Server) (now : Server) (q : QueryRequest) (entry new : Entry) (given : Answer)
+    → effect.state.server ≡ s.server → entry_at effect.state q.txn ≡ Some entry → now.entries ≡ slice_set effect.state.entries q.txn.0 (Some new) → new.answers ≡ entry.answers ++ reply_of q entry.epoch given ∷ []
+    → ((declared : Transaction) → slice_get sc.txns q.txn.0 ≡ Some declared → Fits (site_of sc s.server.0 declared) (pair_up q.txn (A q.txn) effect.state (log_with kept effect.reaction.append))
+    → Next (site_of sc s.server.0 declared) (pair_up q.txn (A q.txn) effect.state (log_with kept effect.reaction.append)) (with_entry (pair_up q.txn (A q.txn) effect.state (log_with kept effect.reaction.append)) new))
+    → RowPairs sc A s kept effect → RowPairs sc A s kept (followed_by effect (sends now (reply_letter effect.state q entry given ∷ [])))
+goes_on_pairs sc A s kept effect now q entry new given server_is found_at entries answers_are event_by h =
     let log = log_with kept effect.reaction.append in
     let was = effect.state in
-    let deed = deed_of q.query query value in
-    let new = entry_after q (unwaiting entry) deed in
-    let now = (resuming was q query entry value).state in
     let P : TxnId → Pair = λ txn. pair_up txn (A txn) was log in
     let Q : TxnId → Pair = λ txn. pair_up txn (A txn) now log in
-    let places = start.places in
-    let within : q.txn.0 < length was.entries = placed_within was.entries q.txn.0 entry k.found in
-    let exists : q.txn.0 < length sc.txns = let same = h.places in omega (arith, within, same, places) in
-    let there : entry_at now q.txn ≡ Some new = ap option_flatten (set_here was.entries q.txn.0 (Some new) within) in
+    let within : q.txn.0 < length was.entries = placed_within was.entries q.txn.0 entry found_at in
+    let there : entry_at now q.txn ≡ Some new = ap (λ (table : List (Option Entry)). option_flatten (slice_get table q.txn.0)) entries ∙ ap option_flatten (set_here was.entries q.txn.0 (Some new) within) in
+    let whole : with_entry (P q.txn) new ≡ Q q.txn = ap (λ (n : Option Entry). made_pair (A q.txn) (epoch_in log) (settled_in q.txn log) n (prepared_in q.txn log)) (sym there) in
     let event : (declared : Transaction) → slice_get sc.txns q.txn.0 ≡ Some declared → Next (site_of sc s.server.0 declared) (P q.txn) (Q q.txn) = λ declared found.
-    let site = site_of sc s.server.0 declared in
-    let query_is : query_at declared q.query ≡ Some query = sym (ap (λ (x : Option Transaction). option_and_then (λ (d : Transaction). query_at d q.query) x) found) ∙ k.asked_is in
-    let answered : IsAnswer site entry q (done_reply q entry.epoch deed) value = answer_is sc was site q query value entry (record { exists = exists; asked_is = k.asked_is; value_is = k.value_is }) query_is in
-    let run : Next site (P q.txn) (with_entry (P q.txn) (ran entry (deed_at declared q.query value) (done_reply q entry.epoch deed))) =
-    runs site (P q.txn) entry q (done_reply q entry.epoch deed) value refl k.found k.waiting_is (h.next q.txn declared found).fits answered in
-    let own : deed_at declared q.query value ≡ deed = ap (λ (x : Option Query). deed_asked q.query x value) query_is in
-    let whole : with_entry (P q.txn) (ran entry (deed_at declared q.query value) (done_reply q entry.epoch deed)) ≡ Q q.txn =
-    ap (λ (n : Option Entry). made_pair (A q.txn) (epoch_in log) (settled_in q.txn log) n (prepared_in q.txn log)) (ap (λ (d : Deed). Some (ran entry d (done_reply q entry.epoch deed))) own ∙ sym there) in
-    subst (Next site (P q.txn)) whole run
-    in
+    subst (Next (site_of sc s.server.0 declared) (P q.txn)) whole (event_by declared found (h.next q.txn declared found).fits) in
     let step : AllNext sc s.server.0 P Q = own_next sc s.server.0 P Q q.txn (λ txn declared found. (h.next txn declared found).fits) event
-    (λ txn apart. other_pair (A txn) q.txn txn was now log None apart (record { entry = Some new; entries = refl; own = tt })) in
-    let answer : IsReply sc s.server Q (done_letter was q (unwaiting entry) deed) = record {
-      from_is = ap (λ (at : ServerId). actor.Server at) k.server_is;
+    (λ txn apart. other_pair (A txn) q.txn txn was now log None apart (record { entry = Some new; entries = entries; own = tt })) in
+    let answer : IsReply sc s.server Q (reply_letter was q entry given) = record {
+      from_is = ap (λ (at : ServerId). actor.Server at) server_is;
       says = λ declared found.
           let site = site_of sc s.server.0 declared in
           let fits : EntryFits site (Q q.txn) new = of_some (EntryFits site (Q q.txn)) (Q q.txn).entry new there (event declared found).fits.entry in
-          last_of (DoneFits site (Q q.txn)) entry.answers (done_reply q entry.epoch deed) fits.answers;
+          last_of (DoneFits site (Q q.txn)) entry.answers (reply_of q entry.epoch given) (subst (Each (DoneFits site (Q q.txn))) answers_are fits.answers);
     } in
     record {
       next = all_both sc s.server.0 (λ txn. pair_up txn (A txn) s kept) P Q h.next step;
-      places = length-set was.entries q.txn.0 (Some new) ∙ h.places;
+      places = ap length entries ∙ (length-set was.entries q.txn.0 (Some new) ∙ h.places);
       replies = each_more (IsReply sc s.server Q) effect.reaction.letters _
           (each_as (IsReply sc s.server P) (IsReply sc s.server Q) (λ letter reply. record { from_is = reply.from_is; says = reply_stays sc s.server P Q step letter.body reply.says }) effect.reaction.letters h.replies) answer;
     }
+
+-- what waited runs
+resumes_pairs : (sc : Scenario) (A : TxnId → Option Asker) (s : Server) (kept : List Record) (effect : Effect Server) (grant : Grant) (q : QueryRequest) (query : Query) (entry : Entry) (value : ℤ) (proof : Option Verdict)
+    → IsResumed sc s.server effect.state grant q query entry value → RowPairs sc A s kept effect → RowPairs sc A s kept (followed_by effect (resuming effect.state q query entry value proof))
+resumes_pairs sc A s kept effect grant q query entry value proof k h =
+    let deed = deed_of q.query query value in
+    let new = entry_after q (unwaiting entry) deed proof in
+    goes_on_pairs sc A s kept effect (resuming effect.state q query entry value proof).state q entry new (ran_as deed proof) k.server_is k.found refl refl
+    (λ declared found fits.
+    let site = site_of sc s.server.0 declared in
+    let p = pair_up q.txn (A q.txn) effect.state (log_with kept effect.reaction.append) in
+    let query_is : query_at declared q.query ≡ Some query = sym (ap (λ (x : Option Transaction). option_and_then (λ (d : Transaction). query_at d q.query) x) found) ∙ k.asked_is in
+    let answered : IsAnswer site entry q (ran_reply q entry deed proof) value = answer_is sc effect.state site q query value proof entry
+    (record { exists = k.exists; asked_is = k.asked_is; value_is = k.value_is }) query_is in
+    let own : deed_at declared q.query value ≡ deed = ap (λ (x : Option Query). deed_asked q.query x value) query_is in
+    subst (λ (d : Deed). Next site p (with_entry p (ran entry d (ran_reply q entry deed proof)))) own
+    (runs site p entry q (ran_reply q entry deed proof) value refl k.found k.waiting_is fits answered)) h
+
+-- or it does not run
+resumes_unrun : (sc : Scenario) (A : TxnId → Option Asker) (s : Server) (kept : List Record) (effect : Effect Server) (grant : Grant) (q : QueryRequest) (query : Query) (entry : Entry) (value : ℤ) (given : Answer)
+    → IsResumed sc s.server effect.state grant q query entry value → has_run given ≡ false → RowPairs sc A s kept effect → RowPairs sc A s kept (followed_by effect (answers_with effect.state q (unwaiting entry) given))
+resumes_unrun sc A s kept effect grant q query entry value given k unrun h =
+    goes_on_pairs sc A s kept effect (answers_with effect.state q (unwaiting entry) given).state q entry (with_answer q (unwaiting entry) given) given k.server_is k.found refl refl
+    (λ declared found fits.
+    let site = site_of sc s.server.0 declared in
+    let p = pair_up q.txn (A q.txn) effect.state (log_with kept effect.reaction.append) in
+    let waits : Waits site p entry q = of_some (Waits site p entry) entry.waiting q k.waiting_is (of_some (EntryFits site p) p.entry entry k.found fits.entry).waiting in
+    denies site p entry (reply_of q entry.epoch given) k.found fits (answers_unrun site p q entry.epoch given unrun waits.fits)) h
 
 -- ---- Prepare
 
@@ -676,16 +713,15 @@ server_row_pairs sc A s kept mail rightly h sound m asked =
     (record {
       relocked = λ effect locks k. record { next = k.next; places = k.places; replies = k.replies };
       ignored = ignores_pairs sc A s kept h;
-      ran = λ q query entry value k.
+      ran = λ q query entry value proof k r.
           let request : IsSoundQuery sc to q = subst (IsSoundBody sc to) k.said_is m in
-          runs_pairs sc A s kept mail.sent q query entry value h (open_unsettled s kept q.txn h.agrees k.unsettled) (record { exists = request.txn; asked_is = k.asked_is; value_is = k.value_is }) k.place
+          runs_pairs sc A s kept mail.sent q query entry value proof h (open_unsettled s kept q.txn h.agrees k.unsettled) (record { exists = request.txn; asked_is = k.asked_is; value_is = k.value_is }) k.place
           (subst (RequestPairs sc s.server A P) k.said_is asked);
       waited = λ q query entry value k.
           let request : IsSoundQuery sc to q = subst (IsSoundBody sc to) k.said_is m in
           waits_pairs sc A s kept mail.sent q entry h (open_unsettled s kept q.txn h.agrees k.unsettled) request.txn k.place (subst (RequestPairs sc s.server A P) k.said_is asked);
-      died = λ q query entry value other k dying.
-          let request : IsSoundQuery sc to q = subst (IsSoundBody sc to) k.said_is m in
-          dies_pairs sc A s kept mail.sent q entry other h (open_unsettled s kept q.txn h.agrees k.unsettled) request.txn k.place (subst (RequestPairs sc s.server A P) k.said_is asked);
+      denied = λ q query entry value verdict k d. unrun q query entry value (answer.Denied verdict) refl k;
+      died = λ q query entry value other k dying. unrun q query entry value (answer.Died other) refl k;
       restarted = λ q k. restarts_pairs sc A s kept q h (subst (RequestPairs sc s.server A P) k.said_is asked);
       answered = λ q entry given k.
           answers_pairs sc A s kept q entry given h k.found
@@ -705,5 +741,13 @@ server_row_pairs sc A s kept mail rightly h sound m asked =
           settles_pairs sc A s kept d h (open_unsettled s kept d.txn h.agrees k.unsettled) (subst (IsSoundBody sc to) k.said_is m).txn (subst (RequestPairs sc s.server A P) k.said_is asked);
       acknowledged = λ d settled k. acknowledges_pairs sc A s kept d h;
       pushed = λ push k. learns_pairs sc A s kept push h;
-      resumed = λ effect grant q query entry value k now. resumes_pairs sc A s kept effect grant q query entry value h k now;
+      resumed = λ effect grant q query entry value proof k r now. resumes_pairs sc A s kept effect grant q query entry value proof k now;
+      resumed_denied = λ effect grant q query entry value verdict k d now. resumes_unrun sc A s kept effect grant q query entry value (answer.Denied verdict) k refl now;
     })
+  where
+    -- a query that asked, and does not run
+    unrun : (q : QueryRequest) (query : Query) (entry : Entry) (value : ℤ) (given : Answer) → has_run given ≡ false → IsAsking sc s mail q query entry value → RowPairs sc A s kept (answers_with s q entry given)
+    unrun q query entry value given not_run k =
+        let request : IsSoundQuery sc (actor.Server s.server) q = subst (IsSoundBody sc (actor.Server s.server)) k.said_is m in
+        denies_pairs sc A s kept mail.sent q entry given h (open_unsettled s kept q.txn h.agrees k.unsettled) request.txn k.place not_run
+        (subst (RequestPairs sc s.server A (λ txn. pair_up txn (A txn) s kept)) k.said_is asked)

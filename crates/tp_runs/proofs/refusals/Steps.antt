@@ -18,7 +18,7 @@ use Rattle.tp_model.specs.Words.no
 use Rattle.tp_model.specs.Words.outcome
 use Rattle.tp_model.specs.Words.step
 use Rattle.tp_model.specs.Words.what
-use Rattle.tp_model.specs.Words.{Actor, Cause, DecideRequest, Fact, Letter, Mail, Record, Scenario, ServerId, Settled, Step, Transaction, TxnId, VoteReply, What}
+use Rattle.tp_model.specs.Words.{Actor, Cause, DecideRequest, Fact, Letter, Mail, Reading, Record, Scenario, ServerId, Settled, Staple, Step, Transaction, TxnId, VoteReply, What}
 use Rattle.tp_runs.proofs.ids.Valid.{IsValid}
 use Rattle.tp_runs.proofs.agreement.Coordinator.{idle_is}
 use Rattle.tp_runs.proofs.agreement.CoordinatorActs.{coordinator_facts}
@@ -29,15 +29,16 @@ use Rattle.tp_runs.proofs.basics.Facts.{ArePast, before_past, facts_after, grows
 use Rattle.tp_runs.proofs.basics.Ids.{same_txn_from, same_txn_is, server_number}
 use Rattle.tp_types.proofs.EachLemmas.{at_made, each_append, each_as, each_get}
 use Rattle.tp_runs.proofs.basics.Logs.{appended, gained, get_set, settled_with}
-use Rattle.tp_runs.proofs.basics.Phases.{Asks, Prepares, Rests, awaits_is, is_undecided, stand_of}
+use Rattle.tp_runs.proofs.basics.Phases.{Asks, Pauses, Prepares, Rests, awaits_is, is_undecided, stand_of}
 use Rattle.tp_runs.proofs.known.World.{Pairs}
 use Rattle.tp_runs.proofs.refusals.Refusing.{asked_prepares, refusal_shown, run_at_abort}
 use Rattle.tp_runs.proofs.refusals.Running.{Remembers, undecided_yet}
 use Rattle.tp_runs.proofs.refusals.World.{AreAbortedRuns, IsAwaiting, IsRunBefore, KeepsDeeds, MoveRefuses, ReasonShown, Refusals, WhatRefused, keeps_same, old_run, old_shown, refused_stays, state_after_refusals}
 use Rattle.tp_runs.proofs.serial_data.Settling.{IsQuiet}
 use Rattle.tp_runs.proofs.serial_data.World.{Serial}
+use Rattle.tp_round.specs.declared.round.Round.{Round}
 use Rattle.tp_scheme.specs.declared.moves.Point.TheVariants as point
-use Rattle.tp_coord.proofs.Rows.{ByLoss, ByOlder, ByProof, ByRefusal, ByRestart, Gained, IsEnded, IsPassed, QueryRan, coordinator_by, submit_by, with_gained}
+use Rattle.tp_coord.proofs.Rows.{ByDenial, ByLoss, ByOlder, ByProof, ByReading, ByRefusal, ByRestart, ByRounds, ByVotes, Gained, IsEnded, IsJudged, IsPassed, QueryRan, coordinator_by, submit_by, with_gained}
 use Rattle.tp_server.proofs.Rows.{server_by}
 use Rattle.tp_runs.proofs.walks.Steps.{Cases, IsCoordinatorUp, IsServerUp, KeepsUp, SaysIdle, WaitRightly, WasSent, machine_after_by}
 use Rattle.tp_recover.specs.Log.{settled_in, settlement_in}
@@ -47,7 +48,7 @@ use Rattle.tp_machine.specs.Parts.{Part}
 use Rattle.tp_types.specs.Each.{Each}
 use Rattle.tp_runs.specs.Sound.{IsSound, IsSoundBody, IsSoundMail}
 use Rattle.tp_machine.specs.Named.{IsStepOf}
-use Rattle.tp_coord.specs.Row.{asks, commit_round, coordinator_row, next_number, refused_by, repeats, sends_query, submit_row}
+use Rattle.tp_coord.specs.Row.{asks, asks_in, commit_round, coordinator_row, next_number, refused_by, repeats, sends_query, staple_of, submit_row}
 use Rattle.tp_coord.specs.State.{Coordinator}
 use Rattle.tp_machine.specs.declared.actors.Actors.{Actors}
 use Rattle.tp_coord.specs.declared.coordinator.Phase.TheVariants as phase
@@ -112,8 +113,12 @@ other_phase : (old new : Coordinator) → is_undecided old.phase ≡ true → (s
 other_phase old new undecided other = record { undecided = undecided; keeps = λ prepares. absurd (other prepares) }
 
 -- one that awaits the answer to a query
-querying_open : (c new : Coordinator) (number : ℕ) → c.phase ≡ phase.Querying number None → LeavesOpen c new
-querying_open c new number is = other_phase c new (ap is_undecided is) (λ prepares. let stands : stand_of c.phase ≡ Asks = ap stand_of is in cc)
+querying_open : (c new : Coordinator) (number : ℕ) (staple : Option Staple) → c.phase ≡ phase.Querying number staple → LeavesOpen c new
+querying_open c new number staple is = other_phase c new (ap is_undecided is) (λ prepares. let stands : stand_of c.phase ≡ Asks = ap stand_of is in cc)
+
+-- one that awaits the authority before a query
+stapling_open : (c new : Coordinator) (number : ℕ) → c.phase ≡ phase.Stapling number → LeavesOpen c new
+stapling_open c new number is = other_phase c new (ap is_undecided is) (λ prepares. let stands : stand_of c.phase ≡ Pauses = ap stand_of is in cc)
 
 -- a row that leaves the decision open
 still_undecided : (sc : Scenario) (c : Coordinator) (mail : Mail) → is_undecided (coordinator_row sc c mail).state.phase ≡ true → LeavesOpen c (coordinator_row sc c mail).state
@@ -121,19 +126,26 @@ still_undecided sc c mail =
     coordinator_by sc c mail (λ (effect : Effect Coordinator). is_undecided effect.state.phase ≡ true → LeavesOpen c effect.state)
     (record {
       ignored = λ e. record { undecided = e; keeps = keeps_same c };
-      sends_query = λ query now next passed moves home e. ran_open (sends_query sc (with_gained c now) (next_number query) next).state query now passed;
-      commit_rounds = λ query now passed moves e. ran_open (asks (with_gained c now) span.Commit (commit_round c)).state query now passed;
+      stapled = λ tell query home k at e. stapling_open c (sends_query sc c query (Some (staple_of tell mail.sent)) home).state query k.stapling;
+      sends_query = λ query now next passed moves home e. ran_open (sends_query sc (with_gained c now) (next_number query) None next).state query now passed;
+      asks_staple = λ query now passed moves e. ran_open (asks_in (with_gained c now) (phase.Stapling (next_number query))).state query now passed;
+      commit_rounds = λ query now passed moves e. ran_open (asks (with_gained c now) span.Commit (commit_round sc c)).state query now passed;
       told = λ tell round k e. record { undecided = ap is_undecided k.asking; keeps = λ prepares. record { prepares = refl; deeds = refl } };
       counted = λ reply round staple server verdicts y e. record { undecided = ap is_undecided y.checking; keeps = λ prepares. record { prepares = refl; deeds = refl } };
+      probed = λ reply round staple server verdicts y whole reads e. record { undecided = ap is_undecided y.checking; keeps = λ prepares. record { prepares = refl; deeds = refl } };
       decides = λ instances rounds passed e. absurd (cc);
       aborted = λ why ended e. absurd (cc);
-      updated = λ reply round staple server verdicts named y f e. record { undecided = ap is_undecided y.checking; keeps = λ prepares. record { prepares = refl; deeds = refl } };
+      updated = λ round staple reading named j f e. record { undecided = judged_open round staple reading j; keeps = λ prepares. record { prepares = refl; deeds = refl } };
       acknowledged = λ ack ended awaited server a e. absurd (cc);
       inquired = λ inquiry ended awaited server k e. record { undecided = e; keeps = keeps_same c };
     })
   where
     ran_open : (new : Coordinator) (query : ℕ) (now : Gained) → IsPassed sc c mail (point.Ran query) now → LeavesOpen c new
-    ran_open new _ _ (QueryRan done server asked value k) = querying_open c new done.query (awaits_is c c.phase done k.awaited k.plain)
+    ran_open new _ _ (QueryRan done server asked value proof k) = let awaits = awaits_is c c.phase done k.awaited in querying_open c new done.query awaits.0 awaits.1
+
+    judged_open : (round : Round) (staple : Option Staple) (reading : Option Reading) → IsJudged c mail round staple reading → is_undecided c.phase ≡ true
+    judged_open _ _ _ (ByVotes reply round staple server verdicts y whole unread) = ap is_undecided y.checking
+    judged_open _ _ _ (ByReading reply round k) = ap is_undecided k.reading
 
 -- ---- a coordinator decides
 
@@ -164,13 +176,16 @@ coordinator_row_shown sc w txn part c n mail sound a h sent up =
     coordinator_by sc c mail (λ (effect : Effect Coordinator). IfSome effect.reaction.append (DecisionShown sc w (coordinator_facts effect.reaction.append)))
     (record {
       ignored = tt;
+      stapled = λ tell query home k at. tt;
       sends_query = λ query now next passed moves home. tt;
+      asks_staple = λ query now passed moves. tt;
       commit_rounds = λ query now passed moves. tt;
       told = λ tell round k. tt;
       counted = λ reply round staple server verdicts y. tt;
+      probed = λ reply round staple server verdicts y whole reads. tt;
       decides = λ instances rounds passed. tt;
       aborted = λ why ended. shown why ended;
-      updated = λ reply round staple server verdicts named y f. tt;
+      updated = λ round staple reading named j f. tt;
       acknowledged = λ ack ended awaited server k. tt;
       inquired = λ inquiry ended awaited server k. tt;
     })
@@ -185,7 +200,9 @@ coordinator_row_shown sc w txn part c n mail sound a h sent up =
     shown : (why : Cause) → IsEnded sc c mail why
         → WhatRefused sc (facts_after w (what.Decided c.txn (decision.Abort why) ∷ [])) (length w.steps) (what.Decided c.txn (decision.Abort why))
     shown _ (ByOlder done server asked other k) = tt
-    shown _ (ByProof reply round staple server verdicts verdict y e) = tt
+    shown _ (ByDenial done server asked verdict k) = tt
+    shown _ (ByProof round staple reading verdict j e) = tt
+    shown _ (ByRounds reply round mets k e) = tt
     shown _ (ByRestart done server asked k) = tt
     shown _ (ByLoss reply round staple server k) = tt
     shown _ (ByRefusal reply round staple server number value k) =
@@ -264,7 +281,8 @@ server_row_shown sc w n mail at part s valid rightly sound a pairs serial known 
     (record {
       relocked = λ effect locks k. k;
       ignored = tt;
-      ran = λ q query entry value k. tt;
+      ran = λ q query entry value proof k r. tt;
+      denied = λ q query entry value verdict k d. tt;
       waited = λ q query entry value k. tt;
       died = λ q query entry value other k dying. tt;
       restarted = λ q k. tt;
@@ -281,7 +299,8 @@ server_row_shown sc w n mail at part s valid rightly sound a pairs serial known 
       settled = λ d k awaiting. record { prepares = λ declared there. absurd (not_ordered d k.said_is awaiting); why = tt };
       acknowledged = λ d settled k. tt;
       pushed = λ push k. tt;
-      resumed = λ effect grant q query entry value k now. now;
+      resumed = λ effect grant q query entry value proof k r now. now;
+      resumed_denied = λ effect grant q query entry value verdict k d now. now;
     })
   where
     -- what is ordered was decided
@@ -395,7 +414,7 @@ idle_refuses sc w (step.Lose mail) happened h e = subst (λ (hs : List What). Mo
 idle_refuses sc w _ happened h e = absurd e
 
 begins_shown : (sc : Scenario) (w : State) (happened : List What) (c : Coordinator) → IfSome (submit_row sc c).reaction.append (DecisionShown sc w happened)
-begins_shown sc w happened c = submit_by sc c (λ (effect : Effect Coordinator). IfSome effect.reaction.append (DecisionShown sc w happened)) (record { ignored = tt; sent = λ server home. tt })
+begins_shown sc w happened c = submit_by sc c (λ (effect : Effect Coordinator). IfSome effect.reaction.append (DecisionShown sc w happened)) (record { ignored = tt; sent = λ server begins home. tt; asked = λ begins. tt })
 
 refusals_cases : (sc : Scenario) (w : State) → IsValid sc → WaitRightly sc w → IsSound sc w → Agrees sc w → Pairs sc w → Serial sc w → Remembers sc w → Refusals sc w → Cases sc w (λ taken move. MoveRefuses sc w move)
 refusals_cases sc w valid rightly sound a pairs serial known h =

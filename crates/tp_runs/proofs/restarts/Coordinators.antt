@@ -60,17 +60,20 @@ coordinator_row_since S R Q L H sc c mail h round heard own shown =
     coordinator_by sc c mail (ActSince S Q L H c.txn)
     (record {
       ignored = record { kept = h; letters = tt; forces = tt };
+      stapled = λ tell query home k there. record { kept = h; letters = (told_since S c home (coord.epoch_told c home) refl h, tt); forces = tt };
       sends_query = λ query now next passed moves home.
           let kept = ran_since query now passed in
           record { kept = kept; letters = (told_since S (with_gained c now) next (coord.epoch_told (with_gained c now) next) refl kept, tt); forces = tt };
+      asks_staple = λ query now passed moves. record { kept = ran_since query now passed; letters = (tt, tt); forces = tt };
       commit_rounds = λ query now passed moves. record { kept = ran_since query now passed; letters = (tt, tt); forces = tt };
       told = λ tell asking k.
           let targets : EachServer (KeepsEpoch c) asking.targets = subst (PhaseKept (KeepsEpoch c)) k.asking (round (ap is_undecided k.asking)) in
           record { kept = h; letters = prepares_since S Q c (coord.next_turn c) asking (coord.staple_of tell mail.sent) (missing_in asking.targets) h (each_missing (KeepsEpoch c) asking.targets targets); forces = tt };
       counted = λ reply asking staple server verdicts y. record { kept = h; letters = tt; forces = tt };
+      probed = λ reply asking staple server verdicts y replied reads. record { kept = h; letters = (tt, tt); forces = tt };
       decides = λ instances rounds passed. record { kept = h; letters = orders_since S Q c outcome.Commit c.servers; forces = tt };
       aborted = λ why ended. record { kept = h; letters = orders_since S Q c outcome.Abort c.servers; forces = shown why ended };
-      updated = λ reply asking staple server verdicts named y e. record { kept = h; letters = (tt, tt); forces = tt };
+      updated = λ asking staple reading named j e. record { kept = h; letters = (tt, tt); forces = tt };
       acknowledged = λ ack ended awaited server k. record { kept = h; letters = tt; forces = tt };
       inquired = λ inquiry ended awaited server k. record { kept = h; letters = orders_since S Q c ended (server ∷ []); forces = tt };
     })
@@ -83,7 +86,7 @@ coordinator_row_since S R Q L H sc c mail h round heard own shown =
     with_epoch done server e = placed_set (λ (n : ℕ) (epoch : ℕ). S c.txn (server_number n) epoch) c.epochs server.0 done.epoch h e
 
     ran_since : (query : ℕ) (now : Gained) → IsPassed sc c mail (point.Ran query) now → KeptSince S c.txn (with_gained c now)
-    ran_since _ _ (QueryRan done server asked value k) = with_epoch done server (heard_here done server k.said_is k.from_is)
+    ran_since _ _ (QueryRan done server asked value proof k) = with_epoch done server (heard_here done server k.said_is k.from_is)
 
 -- the submission of a transaction
 pub submit_row_since : (S : TxnId → ServerId → ℕ → Type 0) (R L : TxnId → ServerId → Type 0) (H : TxnId → Type 0) (sc : Scenario) (c : Coordinator) (place : ℕ) → KeptSince S c.txn c
@@ -92,7 +95,8 @@ submit_row_since S R L H sc c place h =
     submit_by sc c (λ (effect : Effect Coordinator). ActSince S R L H c.txn (with_age effect place))
     (record {
       ignored = record { kept = h; letters = tt; forces = tt };
-      sent = λ server home. record { kept = h; letters = (told_since S c server (coord.epoch_told c server) refl h, tt); forces = tt };
+      sent = λ server moves home. record { kept = h; letters = (told_since S c server (coord.epoch_told c server) refl h, tt); forces = tt };
+      asked = λ moves. record { kept = h; letters = (tt, tt); forces = tt };
     })
 
 -- a request that is sent again
@@ -102,10 +106,12 @@ repeats_since S R sc c h round =
     timer_by sc c (Each (LetterSince S R))
     (record {
       silent = tt;
-      queried = λ number server querying home. (told_since S c server (coord.epoch_told c server) refl h, tt);
+      stapled = λ number stapling. (tt, tt);
+      queried = λ number staple server querying home. (told_since S c server (coord.epoch_told c server) refl h, tt);
       asked = λ over asking e. (tt, tt);
       prepared = λ asking staple checking.
           let targets : EachServer (KeepsEpoch c) asking.targets = subst (PhaseKept (KeepsEpoch c)) checking (round (ap is_undecided checking)) in
           prepares_since S R c c.turn asking staple (missing_in asking.targets) h (each_missing (KeepsEpoch c) asking.targets targets);
+      read = λ over asking reading. (tt, tt);
       ordered = λ ended awaited ending. orders_since S R c ended awaited;
     })

@@ -17,7 +17,7 @@ use Rattle.tp_types.specs.Each.{Each}
 use Rattle.tp_coord.specs.Opened as coord_opened
 use Rattle.tp_coord.specs.Row.{coordinator_row, repeats, submit_row}
 use Rattle.tp_coord.specs.State.{Coordinator}
-use Rattle.tp_coord.proofs.Rows.{ByLoss, ByOlder, ByProof, ByRefusal, ByRestart, IsEnded}
+use Rattle.tp_coord.proofs.Rows.{ByDenial, ByLoss, ByOlder, ByProof, ByRefusal, ByRestart, ByRounds, IsEnded}
 use Rattle.tp_server.proofs.Rows.{IsLateRequest, IsLost, IsLostVote}
 use Rattle.tp_server.specs.Opened as server_opened
 use Rattle.tp_server.specs.Row.{age_of, server_row}
@@ -185,7 +185,9 @@ ended_shown sc w n mail txn c sound a deaths h sent same why ended = shown why e
 
     shown : (why : Cause) → IsEnded sc c mail why → CauseSince (WasLostAt sc w.facts (length w.steps)) (IsHalted w.facts (length w.steps)) c.txn why
     shown _ (ByOlder done server asked other k) = tt
-    shown _ (ByProof reply round staple server verdicts verdict y e) = tt
+    shown _ (ByDenial done server asked verdict k) = tt
+    shown _ (ByProof round staple reading verdict j e) = tt
+    shown _ (ByRounds reply round mets k e) = tt
     shown _ (ByRefusal reply round staple server number value k) = tt
     shown _ (ByRestart done server asked k) =
         let own : done.txn ≡ c.txn = own_done_in_restarts txn done (subst (IsSoundBody sc (actor.Coordinator txn)) k.said_is says).goes_to ∙ sym same in

@@ -8,9 +8,8 @@ use Rattle.tp_model.specs.Outside.{IsOutside}
 use Rattle.tp_model.specs.SerialRun.{is_serial}
 use Rattle.tp_model.specs.Trust.{is_trusted}
 use Rattle.tp_model.specs.Words.{Fact, Scenario, Step}
-use Rattle.tp_runs.proofs.trust.Built.{are_plain}
+use Rattle.tp_runs.proofs.trust.Built.{are_built}
 use Rattle.tp_runs.proofs.ids.Valid.{IsValid, valid_built}
-use Rattle.tp_runs.proofs.ids.Built.{send_first}
 use Rattle.tp_runs.proofs.ages.World.{Ages, ages_next, ages_opening}
 use Rattle.tp_runs.proofs.deaths.World.{Deaths, deaths_next, deaths_opening}
 use Rattle.tp_runs.proofs.ages.Crashes.{ages_crashed}
@@ -96,7 +95,7 @@ holds_running sc m taken built exists stays allowed h =
     let named : PreparesNamed m.state = prepares_named sc m.state h.epochs in
     record {
       sound = sound_next sc m taken built exists stays allowed h.agrees.coordinator_count rightly h.sound;
-      agrees = agrees_next sc m taken valid (send_first sc built (have_homes sc valid)) exists stays allowed rightly h.sound named h.agrees;
+      agrees = agrees_next sc m taken valid exists stays allowed rightly h.sound named h.agrees;
       epochs = epochs_next sc m taken (have_homes sc valid) exists stays allowed rightly h.sound h.agrees h.epochs;
       ages = ages_next sc m taken exists stays allowed rightly h.sound h.agrees h.ages;
       deaths = deaths_next sc m taken exists stays allowed rightly h.sound h.agrees h.ages h.pairs h.deaths;
@@ -109,7 +108,7 @@ holds_running sc m taken built exists stays allowed h =
       refusals = refusals_next sc m taken valid exists stays allowed rightly h.sound h.agrees h.pairs h.serial (record { epochs = h.epochs; told = h.deaths.told; restarts = h.restarts }) h.refusals;
       bounds = bounds_next sc m taken valid exists stays allowed rightly h.sound named h.agrees h.pairs h.serial h.bounds;
       few = few_next sc m taken built exists stays allowed rightly h.agrees h.few;
-      sizes = sizes_next sc m taken (are_plain sc built) (have_homes sc valid) valid exists stays allowed rightly h.sound h.agrees h.pairs h.trusts h.sizes;
+      sizes = sizes_next sc m taken (are_built sc built) (have_homes sc valid) valid exists stays allowed rightly h.sound h.agrees h.pairs h.trusts h.sizes;
     }
 
 -- and after each crash and each boot
@@ -126,7 +125,7 @@ holds_crashed sc w built h =
     let trusts = crash_cases_both (trusts_crashed sc w built rightly h.sound h.agrees h.pairs h.trusts) (pairs_crashed sc w rightly h.sound h.agrees h.epochs h.pairs) in
     let serial = crash_cases_both (serial_crashed sc w valid rightly h.sound named h.agrees h.pairs h.serial) (refusals_crashed sc w valid rightly h.sound h.agrees h.pairs h.serial known h.refusals) in
     let bounds = crash_cases_both (bounds_crashed sc w valid rightly h.sound named h.agrees h.pairs h.serial h.bounds) (few_crashed sc w built h.sound h.few) in
-    let sizes = sizes_crashed sc w (are_plain sc built) (have_homes sc valid) valid rightly h.sound h.agrees h.pairs h.trusts h.sizes in
+    let sizes = sizes_crashed sc w (are_built sc built) (have_homes sc valid) valid rightly h.sound h.agrees h.pairs h.trusts h.sizes in
     crash_cases_as sc w _ (λ taken move. Holds sc (state_after w taken move))
     (λ taken move t. record {
       sound = t.0.0.0.0;
@@ -175,7 +174,7 @@ shows sc w built h =
       outside = h.outside;
       agreed = facts_agreed sc w h.agrees;
       trusted = facts_trusted sc w h.sound h.trusts;
-      caused = facts_caused sc w built h.sound h.refusals h.deaths h.restarts h.trusts;
+      caused = facts_caused sc w h.sound h.refusals h.deaths h.restarts h.trusts;
       serial = serial_facts sc w h.serial;
       lone = facts_lone w.facts h.lone;
       values_are = serial_values sc w (valid_built sc built) h.sound h.agrees h.serial;

@@ -9,7 +9,7 @@ use Rattle.tp_model.specs.Valid.{is_valid_txn}
 use Rattle.tp_model.specs.Words.decision
 use Rattle.tp_model.specs.Words.log
 use Rattle.tp_model.specs.Words.what
-use Rattle.tp_model.specs.Words.{Cause, CommitRecord, Decided, Decision, Deed, Instance, Letter, Mail, Prepared, Record, Scenario, Transaction, TxnId, What}
+use Rattle.tp_model.specs.Words.{Cause, CommitRecord, Decided, Decision, Deed, Instance, Letter, Mail, Prepared, Reading, Record, Scenario, Staple, Transaction, TxnId, What}
 use Rattle.tp_runs.proofs.agreement.Coordinator.{DecisionRests, IsFirst}
 use Rattle.tp_runs.proofs.agreement.CoordinatorActs.{coordinator_facts}
 use Rattle.tp_runs.proofs.agreement.Logs.{IsPrepared, prepared_open}
@@ -36,7 +36,7 @@ use Rattle.tp_runs.proofs.deeds.Stores.{HasPlace, StoreFits}
 use Rattle.tp_runs.proofs.serial_data.Unsettled.{DecidesFirst, IsUnsettled, SameEnds, commit_adds, decision_same, either_decided, fits_same, nothing_decided, same_commit, with_coordinator}
 use Rattle.tp_runs.proofs.serial_data.World.{AreShares, MoveSerial, Serial, ServersSerial, StoreStands, WhatSerial, overlaid_by, run_is_serial, store_by}
 use Rattle.tp_scheme.specs.declared.moves.Point.TheVariants as point
-use Rattle.tp_coord.proofs.Rows.{AllTrue, HasVoted, coordinator_by}
+use Rattle.tp_coord.proofs.Rows.{AllTrue, ByReading, ByVotes, HasVoted, IsJudged, coordinator_by}
 use Rattle.tp_runs.proofs.walks.Steps.{IsCoordinatorUp}
 use Rattle.tp_recover.specs.Log.{decided_in, decision_in, prepared_in, values_in}
 use Rattle.tp_machine.specs.Logs.{decided_at, prepared_at, prepared_by, settled_at, settled_by}
@@ -49,6 +49,7 @@ use Rattle.tp_coord.specs.Row.{coordinator_row}
 use Rattle.tp_coord.specs.State.{Coordinator}
 use Rattle.tp_coord.specs.declared.coordinator.Phase.TheVariants as phase
 use Rattle.tp_coord.specs.declared.coordinator.Phase.{Phase}
+use Rattle.tp_round.specs.declared.round.Round.{Round}
 use Rattle.tp_server.specs.State.{Server}
 
 -- ---- rows
@@ -96,25 +97,33 @@ record_up part c (Some (log.Prepared p)) up h = tt
 record_up part c (Some (log.Told told)) up h = tt
 record_up part c (Some log.Boot) up h = tt
 
+-- a round that is judged is one at commit, which all queries have run before
+judged_prepares : (c : Coordinator) (mail : Mail) (round : Round) (staple : Option Staple) (reading : Option Reading) → IsJudged c mail round staple reading → stand_of c.phase ≡ Prepares
+judged_prepares c mail _ _ _ (ByVotes reply round staple server verdicts y replied unread) = ap stand_of y.checking
+judged_prepares c mail _ _ _ (ByReading reply round k) = ap stand_of k.reading
+
 -- every row of a coordinator on receipt of a mail
 pub coordinator_row_own : (sc : Scenario) (c : Coordinator) (mail : Mail) → ForcesOwn c (coordinator_row sc c mail)
 coordinator_row_own sc c mail =
     coordinator_by sc c mail (ForcesOwn c)
     (record {
       ignored = tt;
+      stapled = λ tell query home k there. tt;
       sends_query = λ query now next passed moves home. tt;
+      asks_staple = λ query now passed moves. tt;
       commit_rounds = λ query now passed moves. tt;
       told = λ tell round k. tt;
       counted = λ reply round staple server verdicts y. tt;
+      probed = λ reply round staple server verdicts y replied reads. tt;
       decides = λ instances rounds passed. record { deeds = refl; prepares = prepares instances rounds passed };
       aborted = λ why ended. tt;
-      updated = λ reply round staple server verdicts named y e. tt;
+      updated = λ round staple reading named j e. tt;
       acknowledged = λ ack ended awaited server a. tt;
       inquired = λ inquiry ended awaited server k. tt;
     })
   where
     prepares : (instances : List Instance) (rounds : ℕ) → HasVoted sc c mail point.Voted instances rounds → stand_of c.phase ≡ Prepares
-    prepares _ _ (AllTrue reply round staple server verdicts k) = ap stand_of k.yes.checking
+    prepares _ _ (AllTrue round staple reading k) = judged_prepares c mail round staple reading k.is_judged
 
 -- ---- a coordinator acts
 

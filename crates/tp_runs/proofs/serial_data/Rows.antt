@@ -9,11 +9,12 @@ use Rattle.tp_lock.specs.declared.entry.Grant.{Grant}
 use Rattle.tp_model.specs.Ids.{same_txn}
 use Rattle.tp_model.specs.Queries.{item_of}
 use Rattle.tp_model.specs.SerialRun.{with_deeds}
+use Rattle.tp_model.specs.Words.answer
 use Rattle.tp_model.specs.Words.body
 use Rattle.tp_model.specs.Words.log
 use Rattle.tp_model.specs.Words.outcome
 use Rattle.tp_model.specs.Words.query
-use Rattle.tp_model.specs.Words.{AdminId, Body, Deed, Letter, Mail, Outcome, PrepareRequest, Prepared, PushNotice, Query, QueryRequest, Record, Scenario, ServerId, Settled, Staple, Transaction, TxnId, Version}
+use Rattle.tp_model.specs.Words.{AdminId, Body, Deed, Letter, Mail, Outcome, PrepareRequest, Prepared, PushNotice, Query, QueryRequest, Record, Scenario, ServerId, Settled, Staple, Transaction, TxnId, Verdict, Version}
 use Rattle.tp_server.proofs.Tables.{written_over}
 use Rattle.tp_recover.specs.Log.{values_by}
 use Rattle.tp_runs.proofs.basics.Ids.{same_txn_is}
@@ -26,12 +27,12 @@ use Rattle.tp_runs.proofs.deeds.Ranges.{AreTested}
 use Rattle.tp_runs.proofs.deeds.Reads.{AreClear, IsReadFrom, ReadsFrom, reads_clear, reads_more}
 use Rattle.tp_runs.proofs.deeds.Stores.{HasPlace}
 use Rattle.tp_runs.proofs.deeds.Tentative.{AreLast, AreUpTo, inside_tested, none_last, own_read, read_last, write_last, write_of}
-use Rattle.tp_server.proofs.Rows.{AreRightWaits, IsAsking, IsFirstHere, IsFirstVote, IsFurther, IsLaterVote, IsResumed, IsVote, ServerCases, resuming, server_by, unwaiting}
+use Rattle.tp_server.proofs.Rows.{AreRightWaits, IsAsking, IsFirstHere, IsFirstVote, IsFurther, IsLaterVote, IsResumed, IsVote, ServerCases, denying, resuming, server_by, unwaiting}
 use Rattle.tp_model.specs.Deeds.{deed_of}
 use Rattle.tp_types.specs.Each.{EachPlaced}
 use Rattle.tp_server.specs.declared.server.Ballot.{Ballot}
 use Rattle.tp_server.specs.declared.server.Entry.{Entry}
-use Rattle.tp_server.specs.Row.{ack_letter, answer_to, asked_query, closes, completes, ended_store, entry_after, entry_at, followed_by, is_open, kept_by, learns, no_letter, refused_as, reply, restarted_reply, server_row, settled_as, tentative_write, value_of_run, votes_on, with_entry, yes_letter}
+use Rattle.tp_server.specs.Row.{ack_letter, answer_to, asked_query, closes, completes, ended_store, entry_after, entry_at, followed_by, is_open, kept_by, learns, no_letter, refused_as, reply, reply_of, server_row, settled_as, tentative_write, value_of_run, votes_on, with_answer, with_entry, yes_letter}
 use Rattle.tp_server.specs.State.{Server}
 use Rattle.tp_server.specs.Verdicts.{with_wants, verdicts_on, with_versions}
 use Rattle.tp_store.specs.Contents.{Contents}
@@ -192,37 +193,37 @@ run_reads sc s q (query.Read item into) entry value h k on is =
         found (Some v) e = ap is_some e
 
 -- what the store keeps of it
-run_last : (sc : Scenario) (s : Server) (q : QueryRequest) (query : Query) (entry : Entry) (value : ℤ) (other : TxnId) → ServerReads sc s → q.txn.0 < length sc.txns → IsRunAt sc s q entry
+run_last : (sc : Scenario) (s : Server) (q : QueryRequest) (query : Query) (entry : Entry) (value : ℤ) (proof : Option Verdict) (other : TxnId) → ServerReads sc s → q.txn.0 < length sc.txns → IsRunAt sc s q entry
     → AreLast (writes_of (kept_by s.store q query value) other)
-    (deeds_in (option_flatten (slice_get (slice_set s.entries q.txn.0 (Some (entry_after q entry (deed_of q.query query value)))) other.0)))
-run_last sc s q (query.Write item expr) entry value other h exists k =
+    (deeds_in (option_flatten (slice_get (slice_set s.entries q.txn.0 (Some (entry_after q entry (deed_of q.query query value) proof))) other.0)))
+run_last sc s q (query.Write item expr) entry value proof other h exists k =
     let deed = deed_of q.query (query.Write item expr) value in
     let places = h.places in
     let entry_places = h.entry_places in
-    last_set s q.txn other (with_write (writes_of s.store q.txn) (write_of deed)) (Some (entry_after q entry deed)) (same_txn q.txn other) refl (omega (arith, exists, places)) (omega (arith, exists, entry_places))
+    last_set s q.txn other (with_write (writes_of s.store q.txn) (write_of deed)) (Some (entry_after q entry deed proof)) (same_txn q.txn other) refl (omega (arith, exists, places)) (omega (arith, exists, entry_places))
     (write_last (writes_of s.store q.txn) entry.deeds deed refl k.upto k.last) (h.last other)
-run_last sc s q (query.Read item into) entry value other h exists k =
+run_last sc s q (query.Read item into) entry value proof other h exists k =
     let deed = deed_of q.query (query.Read item into) value in
     let entry_places = h.entry_places in
     by_txn deed (same_txn q.txn other) refl (omega (arith, exists, entry_places)) (read_last (writes_of s.store q.txn) entry.deeds deed refl k.last)
   where
     by_txn : (deed : Deed) (b : Bool) → same_txn q.txn other ≡ b → q.txn.0 < length s.entries → AreLast (writes_of s.store q.txn) (entry.deeds ++ deed ∷ [])
-        → AreLast (writes_of s.store other) (deeds_in (option_flatten (slice_get (slice_set s.entries q.txn.0 (Some (entry_after q entry deed))) other.0)))
+        → AreLast (writes_of s.store other) (deeds_in (option_flatten (slice_get (slice_set s.entries q.txn.0 (Some (entry_after q entry deed proof))) other.0)))
     by_txn deed true e within new =
-        subst (λ (found : Option Entry). AreLast (writes_of s.store other) (deeds_in found)) (sym (entry_set s q.txn other (Some (entry_after q entry deed)) true e within))
+        subst (λ (found : Option Entry). AreLast (writes_of s.store other) (deeds_in found)) (sym (entry_set s q.txn other (Some (entry_after q entry deed proof)) true e within))
         (subst (λ (t : TxnId). AreLast (writes_of s.store t) (entry.deeds ++ deed ∷ [])) (same_txn_is q.txn other e) new)
     by_txn deed false e within new =
-        subst (λ (found : Option Entry). AreLast (writes_of s.store other) (deeds_in found)) (sym (entry_set s q.txn other (Some (entry_after q entry deed)) false e within)) (h.last other)
+        subst (λ (found : Option Entry). AreLast (writes_of s.store other) (deeds_in found)) (sym (entry_set s q.txn other (Some (entry_after q entry deed proof)) false e within)) (h.last other)
 
 tentative_places : (store : Contents) (q : QueryRequest) (query : Query) (value : ℤ) → length (kept_by store q query value).tentative ≡ length store.tentative
 tentative_places store q (query.Read item into) value = refl
 tentative_places store q (query.Write item expr) value = length-set store.tentative q.txn.0 (with_write (writes_of store q.txn) (tentative_write q item value))
 
-runs_keep : (sc : Scenario) (M : TxnId → Type 0) (s : Server) (q : QueryRequest) (query : Query) (entry : Entry) (value : ℤ) → ServerReads sc s → q.txn.0 < length sc.txns → (item_of query).0 < length sc.items → IsRunAt sc s q entry
-    → value_of_run s q query ≡ Some value → ServerKeeps sc M s (completes s q query entry (deed_of q.query query value))
-runs_keep sc M s q query entry value h exists on_item at is =
+runs_keep : (sc : Scenario) (M : TxnId → Type 0) (s : Server) (q : QueryRequest) (query : Query) (entry : Entry) (value : ℤ) (proof : Option Verdict) → ServerReads sc s → q.txn.0 < length sc.txns → (item_of query).0 < length sc.items → IsRunAt sc s q entry
+    → value_of_run s q query ≡ Some value → ServerKeeps sc M s (completes s q query entry (deed_of q.query query value) proof)
+runs_keep sc M s q query entry value proof h exists on_item at is =
     let deed = deed_of q.query query value in
-    let new = entry_after q entry deed in
+    let new = entry_after q entry deed proof in
     let same : (kept_by s.store q query value).values ≡ s.store.values = kept_values s.store q query value in
     let reads : AllRead s.store.values (slice_set s.entries q.txn.0 (Some new)) =
     placed_set (λ (n : ℕ) (found : Entry). ReadsFrom s.store.values found.deeds) s.entries q.txn.0 new h.reads
@@ -234,7 +235,7 @@ runs_keep sc M s q query entry value h exists on_item at is =
         bounds_are = kept_bounds s.store q query value ∙ h.bounds_are;
         places = tentative_places s.store q query value ∙ h.places;
         entry_places = length-set s.entries q.txn.0 (Some new) ∙ h.entry_places;
-        last = λ other. run_last sc s q query entry value other h exists at;
+        last = λ other. run_last sc s q query entry value proof other h exists at;
       };
       forces = tt;
       votes = tt;
@@ -243,7 +244,7 @@ runs_keep sc M s q query entry value h exists on_item at is =
 
 -- ---- an entry that does no more
 
--- the entry at which a query waits, or is told to die, has done what it had
+-- the entry at which a query waits, or is given an answer that ends its transaction, has done what it had
 entry_keeps : (sc : Scenario) (M : TxnId → Type 0) (s : Server) (q : QueryRequest) (entry now : Entry) (letters : List Letter) → ServerReads sc s → q.txn.0 < length sc.txns → IsRunAt sc s q entry → now.deeds ≡ entry.deeds
     → ServerKeeps sc M s (sends (with_entry s q.txn (Some now)) letters)
 entry_keeps sc M s q entry now letters h exists at same =
@@ -278,11 +279,19 @@ resumed_at sc at s grant q query entry value h k =
     }
 
 -- what waited runs, after what was done before
-pub resumes_keep : (sc : Scenario) (M : TxnId → Type 0) (s : Server) (effect : Effect Server) (grant : Grant) (q : QueryRequest) (query : Query) (entry : Entry) (value : ℤ) → IsResumed sc s.server effect.state grant q query entry value
-    → ServerKeeps sc M s effect → ServerKeeps sc M s (followed_by effect (resuming effect.state q query entry value))
-resumes_keep sc M s effect grant q query entry value k h =
-    let ran = runs_keep sc M effect.state q query (unwaiting entry) value h.reads k.exists k.on_item (resumed_at sc s.server effect.state grant q query entry value h.reads k) k.value_is in
+pub resumes_keep : (sc : Scenario) (M : TxnId → Type 0) (s : Server) (effect : Effect Server) (grant : Grant) (q : QueryRequest) (query : Query) (entry : Entry) (value : ℤ) (proof : Option Verdict) → IsResumed sc s.server effect.state grant q query entry value
+    → ServerKeeps sc M s effect → ServerKeeps sc M s (followed_by effect (resuming effect.state q query entry value proof))
+resumes_keep sc M s effect grant q query entry value proof k h =
+    let ran = runs_keep sc M effect.state q query (unwaiting entry) value proof h.reads k.exists k.on_item (resumed_at sc s.server effect.state grant q query entry value h.reads k) k.value_is in
     record { reads = ran.reads; forces = h.forces; votes = h.votes; values = ran.values ∙ h.values }
+
+-- or its proof is false, and its entry does no more
+pub denies_keep : (sc : Scenario) (M : TxnId → Type 0) (s : Server) (effect : Effect Server) (grant : Grant) (q : QueryRequest) (query : Query) (entry : Entry) (value : ℤ) (verdict : Verdict) → IsResumed sc s.server effect.state grant q query entry value
+    → ServerKeeps sc M s effect → ServerKeeps sc M s (followed_by effect (denying effect.state q entry verdict))
+denies_keep sc M s effect grant q query entry value verdict k h =
+    let now = with_answer q (unwaiting entry) (answer.Denied verdict) in
+    let kept = entry_keeps sc M effect.state q (unwaiting entry) now [] h.reads k.exists (resumed_at sc s.server effect.state grant q query entry value h.reads k) refl in
+    record { reads = kept.reads; forces = h.forces; votes = h.votes; values = h.values }
 
 -- ---- Prepare
 
@@ -408,16 +417,19 @@ keeps_cases sc M s mail h clear =
             values = k.values;
           };
       ignored = stays_keep sc M s [] h;
-      ran = λ q query entry value k.
+      ran = λ q query entry value proof k r.
           let m = subst (RequestClear sc M s) k.said_is clear in
-          runs_keep sc M s q query entry value h m.exists (m.on_item query k.asked_is) (run_at sc s mail q query entry value h m k) k.value_is;
+          runs_keep sc M s q query entry value proof h m.exists (m.on_item query k.asked_is) (run_at sc s mail q query entry value h m k) k.value_is;
+      denied = λ q query entry value verdict k d.
+          let m = subst (RequestClear sc M s) k.said_is clear in
+          entry_keeps sc M s q entry _ _ h m.exists (run_at sc s mail q query entry value h m k) refl;
       waited = λ q query entry value k.
           let m = subst (RequestClear sc M s) k.said_is clear in
           entry_keeps sc M s q entry (record entry { waiting = Some q }) [] h m.exists (run_at sc s mail q query entry value h m k) refl;
       died = λ q query entry value other k dying.
           let m = subst (RequestClear sc M s) k.said_is clear in
           entry_keeps sc M s q entry _ _ h m.exists (run_at sc s mail q query entry value h m k) refl;
-      restarted = λ q k. stays_keep sc M s (reply s q.txn (body.Done (restarted_reply q s.epoch)) ∷ []) h;
+      restarted = λ q k. stays_keep sc M s (reply s q.txn (body.Done (reply_of q s.epoch answer.Restarted)) ∷ []) h;
       answered = λ q entry given k. stays_keep sc M s (reply s q.txn (body.Done given) ∷ []) h;
       voted = λ p entry staple txn k. votes_keep sc M s mail p entry staple txn h (subst (RequestClear sc M s) k.said_is clear) k;
       voted_again = λ p entry cast k. stays_keep sc M s (yes_letter s p.txn cast ∷ []) h;
@@ -427,7 +439,8 @@ keeps_cases sc M s mail h clear =
       settled = λ d k. ends_keep sc M s (settled_as d) (ack_letter s d.txn) h (subst (RequestClear sc M s) k.said_is clear);
       acknowledged = λ d settled k. stays_keep sc M s (ack_letter s d.txn ∷ []) h;
       pushed = λ push k. learns_keep sc M s push h;
-      resumed = λ effect grant q query entry value k now. resumes_keep sc M s effect grant q query entry value k now;
+      resumed = λ effect grant q query entry value proof k r now. resumes_keep sc M s effect grant q query entry value proof k now;
+      resumed_denied = λ effect grant q query entry value verdict k d now. denies_keep sc M s effect grant q query entry value verdict k now;
     }
 
 -- every row of a server on receipt of a mail

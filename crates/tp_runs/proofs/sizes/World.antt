@@ -12,12 +12,13 @@ use Rattle.tp_model.specs.Words.cause
 use Rattle.tp_model.specs.Words.decision
 use Rattle.tp_model.specs.Words.log
 use Rattle.tp_model.specs.Words.scheme
-use Rattle.tp_model.specs.Words.{CommitRecord, Decision, Fact, Instance, Mail, Met, Record, Scenario, Scheme, ServerId, Step, Transaction, TxnId, Verdict}
+use Rattle.tp_model.specs.Words.{CommitRecord, Decision, Fact, Instance, Mail, Met, Reading, Record, Scenario, Scheme, ServerId, Staple, Step, Transaction, TxnId, Verdict}
 use Rattle.tp_scheme.specs.declared.moves.Point.TheVariants as point
-use Rattle.tp_coord.proofs.Rows.{AllTrue, HasVoted, coordinator_by, submit_by}
+use Rattle.tp_coord.proofs.Rows.{AllTrue, ByReading, ByVotes, HasVoted, IsJudged, coordinator_by, submit_by}
 use Rattle.tp_coord.specs.Opened as coord_opened
 use Rattle.tp_coord.specs.Row.{coordinator_row, submit_row}
 use Rattle.tp_coord.specs.State.{Coordinator}
+use Rattle.tp_round.specs.declared.round.Round.{Round}
 use Rattle.tp_machine.specs.Machine.{Machine, State, log_with, machine_after, opened_part, opening_state, refusal, with_age}
 use Rattle.tp_machine.specs.Named.{IsStepOf, IsTxn}
 use Rattle.tp_machine.specs.Parts.{Part}
@@ -29,7 +30,7 @@ use Rattle.tp_model.specs.Versions.{is_consistent}
 use Rattle.tp_model.specs.Valid.{has_valid_creds, is_name_of_server, is_valid_query, is_valid_txn}
 use Rattle.tp_model.specs.Limits.{has_count, is_from_to}
 use Rattle.std.specs.Cmp.Lexicographic.{pointwise}
-use Rattle.tp_runs.proofs.trust.Built.{ArePlain}
+use Rattle.tp_runs.proofs.trust.Built.{AreBuilt}
 use Rattle.tp_runs.proofs.agreement.Steps.{own_txn}
 use Rattle.tp_runs.proofs.agreement.World.{Agrees}
 use Rattle.tp_runs.proofs.basics.Found.{of_some}
@@ -117,7 +118,8 @@ server_row_small sc s mail rightly few =
     (record {
       relocked = λ effect locks h. h;
       ignored = tt;
-      ran = λ q query entry value k. tt;
+      ran = λ q query entry value proof k r. tt;
+      denied = λ q query entry value verdict k d. tt;
       waited = λ q query entry value k. tt;
       died = λ q query entry value other k e. tt;
       restarted = λ q k. tt;
@@ -132,7 +134,8 @@ server_row_small sc s mail rightly few =
       settled = λ d k. tt;
       acknowledged = λ d settled k. tt;
       pushed = λ push k. tt;
-      resumed = λ effect grant q query entry value k h. h;
+      resumed = λ effect grant q query entry value proof k r h. h;
+      resumed_denied = λ effect grant q query entry value verdict k d h. h;
     })
 
 -- so it is of the row on each mail
@@ -165,24 +168,32 @@ Decides txn _ = Unit {0}
 abbrev ForcesFewDeeds : TxnId → Effect Coordinator → Type 0
 ForcesFewDeeds txn effect = IfSome effect.reaction.append (Decides txn)
 
+-- a round is judged before anything is decided
+judged_undecided : (c : Coordinator) (mail : Mail) (round : Round) (staple : Option Staple) (reading : Option Reading) → IsJudged c mail round staple reading → is_undecided c.phase ≡ true
+judged_undecided c mail _ _ _ (ByVotes reply round staple server verdicts y replied unread) = ap is_undecided y.checking
+judged_undecided c mail _ _ _ (ByReading reply round k) = ap is_undecided k.reading
+
 coordinator_row_few : (sc : Scenario) (c : Coordinator) (mail : Mail) → (is_undecided c.phase ≡ true → length c.deeds ≤ 16) → ForcesFewDeeds c.txn (coordinator_row sc c mail)
 coordinator_row_few sc c mail few =
     coordinator_by sc c mail (ForcesFewDeeds c.txn)
     (record {
       ignored = tt;
+      stapled = λ tell query home k there. tt;
       sends_query = λ query now next passed moves home. tt;
+      asks_staple = λ query now passed moves. tt;
       commit_rounds = λ query now passed moves. tt;
       told = λ tell round k. tt;
       counted = λ reply round staple server verdicts y. tt;
+      probed = λ reply round staple server verdicts y replied reads. tt;
       decides = λ instances rounds passed. (refl, few (undecided instances rounds passed));
       aborted = λ why ended. (refl, tt);
-      updated = λ reply round staple server verdicts named y e. tt;
+      updated = λ round staple reading named j e. tt;
       acknowledged = λ ack ended awaited server k. tt;
       inquired = λ inquiry ended awaited server k. tt;
     })
   where
     undecided : (instances : List Instance) (rounds : ℕ) → HasVoted sc c mail point.Voted instances rounds → is_undecided c.phase ≡ true
-    undecided _ _ (AllTrue reply round staple server verdicts k) = ap is_undecided k.yes.checking
+    undecided _ _ (AllTrue round staple reading k) = judged_undecided c mail round staple reading k.is_judged
 
 -- numbers in a row are different
 above_apart : (number low many : ℕ) → number < low → AllByRecursion (λ (other : ℕ). eqb number other ≡ false) (range_with_len low many)
@@ -308,19 +319,19 @@ txn_declared sc txn exists = by_found (slice_get sc.txns txn.0) refl
     by_found None e = absurd (missing sc.txns txn.0 exists e)
     by_found (Some declared) e = (declared, e)
 
-pub received_small : (sc : Scenario) (w : State) → ArePlain sc → HaveHomes sc → IsValid sc → IsSound sc w → Agrees sc w → Pairs sc w → Trusts sc w → (n : ℕ) (mail : Mail) (txn : TxnId) (part : Part Coordinator) (c : Coordinator)
+pub received_small : (sc : Scenario) (w : State) → AreBuilt sc → HaveHomes sc → IsValid sc → IsSound sc w → Agrees sc w → Pairs sc w → Trusts sc w → (n : ℕ) (mail : Mail) (txn : TxnId) (part : Part Coordinator) (c : Coordinator)
     → WasSent w n mail (actor.Coordinator txn) → IsCoordinatorUp w txn part c → IfSome (coordinator_row sc c mail).reaction.append IsSmallAtCoordinator
-received_small sc w plain homes valid sound agrees pairs trusts n mail txn part c sent up =
+received_small sc w built homes valid sound agrees pairs trusts n mail txn part c sent up =
     let same : c.txn ≡ txn = own_txn sc w txn part c sound up.found up.up in
     let there = txn_declared sc txn (sound.actors_are.coordinators txn.0 part up.found).exists in
-    let decides = received_row_trusts sc w (few_in_homes sc homes) plain homes valid sound agrees pairs trusts n mail txn part c sent up in
+    let decides = received_row_trusts sc w (few_in_homes sc homes) built homes valid sound agrees pairs trusts n mail txn part c sent up in
     append_small sc w.facts (length w.steps) c.txn there.0 (coordinator_row sc c mail).reaction.append homes valid (subst (λ (t : TxnId). slice_get sc.txns t.0 ≡ Some there.0) (sym same) there.1) decides.decides
     (coordinator_row_few sc c mail (coordinator_few sc w txn part c there.0 homes pairs up there.1))
 
 -- a submission forces nothing
 submit_small : (sc : Scenario) (c : Coordinator) (age : ℕ) → IfSome (with_age (submit_row sc c) age).reaction.append IsSmallAtCoordinator
 submit_small sc c age =
-    submit_by sc c (λ (effect : Effect Coordinator). IfSome (with_age effect age).reaction.append IsSmallAtCoordinator) (record { ignored = tt; sent = λ server home. tt })
+    submit_by sc c (λ (effect : Effect Coordinator). IfSome (with_age effect age).reaction.append IsSmallAtCoordinator) (record { ignored = tt; sent = λ server moves home. tt; asked = λ moves. tt })
 
 -- ---- steps
 
@@ -348,8 +359,8 @@ unmoved_small actors others servers coordinators h =
       coordinators = subst (EachAt (λ (n : ℕ) (part : Part Coordinator). Each IsSmallAtCoordinator part.log)) (sym coordinators) h.coordinators;
     }
 
-sizes_cases : (sc : Scenario) (w : State) → ArePlain sc → HaveHomes sc → IsValid sc → WaitRightly sc w → IsSound sc w → Agrees sc w → Pairs sc w → Trusts sc w → Sizes w → Cases sc w (λ taken move. AreSmall move.actors)
-sizes_cases sc w plain homes valid rightly sound agrees pairs trusts h =
+sizes_cases : (sc : Scenario) (w : State) → AreBuilt sc → HaveHomes sc → IsValid sc → WaitRightly sc w → IsSound sc w → Agrees sc w → Pairs sc w → Trusts sc w → Sizes w → Cases sc w (λ taken move. AreSmall move.actors)
+sizes_cases sc w built homes valid rightly sound agrees pairs trusts h =
     record {
       idle = λ taken happened says. h;
       server_received = λ n mail at part s sent up.
@@ -357,7 +368,7 @@ sizes_cases sc w plain homes valid rightly sound agrees pairs trusts h =
           (server_sends_small sc w homes rightly pairs mail at part s up);
       coordinator_received = λ n mail txn part c sent up.
           coordinators_small w.actors txn part (Some (coordinator_row sc c mail).state) (coordinator_row sc c mail).reaction.append h up.found
-          (received_small sc w plain homes valid sound agrees pairs trusts n mail txn part c sent up);
+          (received_small sc w built homes valid sound agrees pairs trusts n mail txn part c sent up);
       authority_told = λ n mail sent. h;
       master_told = λ n mail sent. h;
       published = λ admin exists more. unmoved_small w.actors _ refl refl h;
@@ -370,11 +381,11 @@ sizes_cases sc w plain homes valid rightly sound agrees pairs trusts h =
     }
 
 -- a step that is not refused forces small records
-pub sizes_next : (sc : Scenario) (m : Machine) (taken : Step) → ArePlain sc → HaveHomes sc → IsValid sc → IsStepOf sc taken → KeepsUp taken → refusal m.state taken ≡ None → WaitRightly sc m.state → IsSound sc m.state → Agrees sc m.state → Pairs sc m.state → Trusts sc m.state
+pub sizes_next : (sc : Scenario) (m : Machine) (taken : Step) → AreBuilt sc → HaveHomes sc → IsValid sc → IsStepOf sc taken → KeepsUp taken → refusal m.state taken ≡ None → WaitRightly sc m.state → IsSound sc m.state → Agrees sc m.state → Pairs sc m.state → Trusts sc m.state
     → Sizes m.state → Sizes (machine_after sc m taken).state
-sizes_next sc m taken plain homes valid exists stays allowed rightly sound agrees pairs trusts h =
+sizes_next sc m taken built homes valid exists stays allowed rightly sound agrees pairs trusts h =
     machine_after_by sc m (λ taken move. AreSmall move.actors) Sizes
-    (sizes_cases sc m.state plain homes valid rightly sound agrees pairs trusts h) agrees.coordinator_count
+    (sizes_cases sc m.state built homes valid rightly sound agrees pairs trusts h) agrees.coordinator_count
     (λ taken move small. small) taken exists stays allowed
 
 -- before the first step all logs are empty

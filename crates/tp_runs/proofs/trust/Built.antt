@@ -1,54 +1,44 @@
--- What trust takes from the present stage: a deferred commit reads no master; and from a scenario's rules, that a server knows at first no
--- version above the opening one.
-use Rattle.std.specs.List.{list_all, list_any}
-use Rattle.std.specs.Option.{option_map_or}
-use Rattle.std.proofs.Common.{Bool, List, None, Option, Some, [], ap, arith, false, length, option_map, refl, slice_get, subst, suc, true, unwrap_or, zero, ℕ, ◌+◌, ◌<◌, ◌≤◌, ◌||◌, ◌∙◌, ◌∷◌, ◌≡◌}
+-- What trust takes from the present stage: every transaction evaluates at commit; and from a scenario's rules, that a server knows at first
+-- no version above the opening one.
+use Rattle.std.proofs.Common.{List, None, Option, Some, [], ap, arith, false, inl, inr, length, option_map, refl, slice_get, subst, suc, true, unwrap_or, zero, ℕ, ◌+◌, ◌<◌, ◌∷◌, ◌≡◌, ◌≤◌, ◌⊎◌}
 use Rattle.std.proofs.lemmas.Bool.{and_parts}
 use Rattle.std.proofs.lemmas.Bool.Decides.{nat_tests}
-use Rattle.tp_types.proofs.ListLemmas.{three_parts}
 use Rattle.std.specs.Cmp.Lexicographic.{pointwise}
+use Rattle.std.specs.List.{list_all}
+use Rattle.std.specs.Option.{option_map_or}
+use Rattle.tp_types.proofs.EachLemmas.{each_get, each_placed}
+use Rattle.tp_types.proofs.ListLemmas.{three_parts}
+use Rattle.tp_types.specs.Each.{Each}
 use Rattle.tp_model.proofs.RuleLemmas as rules
 use Rattle.tp_model.specs.Built.{is_built}
+use Rattle.tp_model.specs.Demand.{is_incremental}
 use Rattle.tp_model.specs.Ids.{same_item}
-use Rattle.tp_model.specs.Levels.{is_global, is_global_item, is_global_query, level_of, reads_master}
 use Rattle.tp_model.specs.Limits.{has_count}
-use Rattle.tp_model.specs.Queries.{item_of}
 use Rattle.tp_model.specs.Valid.{are_distinct, are_known, are_valid_from, is_known, is_valid_admin, is_valid_server, owned_from, same_admin_name, same_server_name}
 use Rattle.tp_model.specs.Versions.{opening_version}
+use Rattle.tp_model.specs.Words.{Admin, AdminId, Scenario, Scheme, ServerDecl, Transaction, Version}
 use Rattle.tp_model.specs.Words.scheme
-use Rattle.tp_model.specs.Words.{Admin, AdminId, Item, Query, Scenario, ServerDecl, Transaction, Version}
-use Rattle.tp_types.proofs.EachLemmas.{each_placed}
-use Rattle.tp_runs.proofs.ids.Built.{plain_txn}
-use Rattle.tp_types.specs.Each.{Each}
 use Rattle.tp_machine.specs.Named.{IsAdmin}
+use Rattle.tp_runs.proofs.ids.Built.{built_txn}
 
 -- ---- transactions
 
--- each transaction is deferred and reads no master
-pub record ArePlain (sc : Scenario) : Type 0 where
-  pub deferred : Each (λ (txn : Transaction). txn.scheme ≡ scheme.Deferred) sc.txns
-  pub levels : Each (λ (t : Transaction). (admin : AdminId) → is_global (level_of t admin) ≡ false) sc.txns
-  pub view : Each (λ (txn : Transaction). reads_master sc txn ≡ false) sc.txns
+-- each transaction is of a scheme that is built
+pub record AreBuilt (sc : Scenario) : Type 0 where
+  pub schemes : Each (λ (declared : Transaction). (declared.scheme ≡ scheme.Deferred) ⊎ (declared.scheme ≡ scheme.Punctual)) sc.txns
 
--- a transaction of the level view reads no master
-view_reads_none : (sc : Scenario) (txn : Transaction) → is_global txn.level ≡ false → reads_master sc txn ≡ false
-view_reads_none sc txn view = none txn.queries
-  where
-    one : (item : Option Item) → option_map_or (is_global_item txn) item false ≡ false
-    one None = refl
-    one (Some item) = view
+pub are_built : (sc : Scenario) → is_built sc ≡ true → AreBuilt sc
+are_built sc built =
+    record { schemes = each_placed (λ (declared : Transaction). (declared.scheme ≡ scheme.Deferred) ⊎ (declared.scheme ≡ scheme.Punctual)) sc.txns (λ n declared e. (built_txn sc n declared built e).scheme_is) }
 
-    none : (queries : List Query) → list_any (is_global_query sc txn) queries ≡ false
-    none [] = refl
-    none (asked ∷ queries) = ap (λ (b : Bool). b || list_any (is_global_query sc txn) queries) (one (slice_get sc.items (item_of asked).0)) ∙ none queries
+evaluates_by : (chosen : Scheme) → (chosen ≡ scheme.Deferred) ⊎ (chosen ≡ scheme.Punctual) → is_incremental chosen ≡ false
+evaluates_by chosen (inl deferred) = ap is_incremental deferred
+evaluates_by chosen (inr punctual) = ap is_incremental punctual
 
-pub are_plain : (sc : Scenario) → is_built sc ≡ true → ArePlain sc
-are_plain sc built =
-    record {
-      deferred = each_placed (λ (t : Transaction). t.scheme ≡ scheme.Deferred) sc.txns (λ n txn e. (plain_txn sc n txn built e).deferred);
-      levels = each_placed (λ (t : Transaction). (admin : AdminId) → is_global (level_of t admin) ≡ false) sc.txns (λ n txn e. λ admin. (plain_txn sc n txn built e).view);
-      view = each_placed (λ (t : Transaction). reads_master sc t ≡ false) sc.txns (λ n txn e. view_reads_none sc txn (plain_txn sc n txn built e).view);
-    }
+-- so it evaluates at commit
+pub evaluates : (sc : Scenario) (n : ℕ) (declared : Transaction) → AreBuilt sc → slice_get sc.txns n ≡ Some declared → is_incremental declared.scheme ≡ false
+evaluates sc n declared built found =
+    evaluates_by declared.scheme (each_get (λ (t : Transaction). (t.scheme ≡ scheme.Deferred) ⊎ (t.scheme ≡ scheme.Punctual)) sc.txns n declared built.schemes found)
 
 -- ---- versions known at first
 

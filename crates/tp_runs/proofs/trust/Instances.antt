@@ -1,25 +1,27 @@
 -- Trust: the instances that a transaction has closed are what its scheme demands so far, and stay so; what it has gathered is right.
+use Rattle.std.proofs.Common.{Bool, IfSome, List, None, Option, Some, [], ap, arith, false, is_none, length, nat_le, nat_lt, refl, subst, sym, take, true, ℕ, if◌then◌else◌, ◌&&◌, ◌++◌, ◌+◌, ◌-◌, ◌<◌, ◌==◌, ◌∙◌, ◌∷◌, ◌≡◌, ◌≤◌}
+use Rattle.std.proofs.lemmas.Bool.{and_from, and_parts, eq-eqb, le-leb, lt-ltb}
+use Rattle.std.proofs.lemmas.Bool.Decides.{nat_tests}
+use Rattle.std.proofs.lemmas.List.{length_push}
 use Rattle.std.specs.Cmp.Lexicographic.{pointwise}
 use Rattle.std.specs.List.{count_by, list_all, range_with_len}
-use Rattle.std.proofs.Common.{Bool, IfSome, List, None, Option, Some, [], ap, arith, false, if◌then◌else◌, inl, inr, is_none, length, nat_le, nat_lt, refl, subst, sym, take, true, ℕ, ◌&&◌, ◌++◌, ◌+◌, ◌-◌, ◌<◌, ◌==◌, ◌∙◌, ◌∷◌, ◌≡◌, ◌⊎◌}
-use Rattle.std.proofs.lemmas.Bool.{and_from, and_parts, eq-eqb}
-use Rattle.std.proofs.lemmas.List.{length_push}
 use Rattle.tp_types.proofs.EachLemmas.{each_append, each_as}
 use Rattle.tp_types.proofs.ListLemmas.{number_itself}
 use Rattle.tp_types.specs.Each.{Each, EachAt}
-use Rattle.tp_model.specs.Demand.{agrees_at, are_instances, count_of, each_follows, first_of, follows, is_incremental, is_instance, is_over, is_round_count, many_of, meets_demand, most_rounds}
+use Rattle.tp_model.specs.Demand.{agrees_at, are_instances, count_of, each_follows, first_of, follows, is_after_reading, is_earlier_proof, is_incremental, is_instance, is_later, is_over, is_round_count, many_of, meets_demand, most_rounds}
 use Rattle.tp_model.specs.Facts.{before, was_submitted}
 use Rattle.tp_model.specs.Levels.{is_global, level_of, reads_master}
 use Rattle.tp_model.specs.Versions.{is_consistent, is_one_version, is_publication, meets_readings, opening_version}
+use Rattle.tp_model.specs.Words.{CommitRecord, Fact, Instance, Scenario, Scheme, Staple, Transaction, TxnId, Verdict}
 use Rattle.tp_model.specs.Words.scheme
-use Rattle.tp_model.specs.Words.{CommitRecord, Fact, Instance, Scenario, Scheme, Transaction, TxnId, Verdict}
-use Rattle.tp_runs.proofs.basics.Facts.{Grows}
+use Rattle.tp_coord.specs.declared.coordinator.Phase.{Phase}
+use Rattle.tp_coord.specs.declared.coordinator.Phase.TheVariants as phase
+use Rattle.tp_coord.specs.declared.coordinator.Span.{Span}
+use Rattle.tp_coord.specs.declared.coordinator.Span.TheVariants as span
+use Rattle.tp_runs.proofs.basics.Facts.{Grows, all_from_each}
+use Rattle.tp_runs.proofs.basics.Turns.{IsAbove, IsEarlierInstance}
 use Rattle.tp_runs.proofs.basics.Verdicts.{numbers_of}
 use Rattle.tp_runs.proofs.trust.Fit.{Later, Right, has_rule, maybe_stays, rights_stay, submitted_stays}
-use Rattle.tp_coord.specs.declared.coordinator.Phase.TheVariants as phase
-use Rattle.tp_coord.specs.declared.coordinator.Phase.{Phase}
-use Rattle.tp_coord.specs.declared.coordinator.Span.TheVariants as span
-use Rattle.tp_coord.specs.declared.coordinator.Span.{Span}
 
 -- ---- an instance
 
@@ -113,11 +115,11 @@ follows_more chosen (one ∷ other ∷ instances) next e last =
 -- ---- what is closed and gathered so far
 
 -- the instances that are closed, of a transaction with so many queries whose scheme closes one at each query
-abbrev closed_over : ℕ → Span → ℕ
+abbrev pub closed_over : ℕ → Span → ℕ
 closed_over queries (span.Validate number) = number - 1
 closed_over queries span.Commit = queries
 
-abbrev closed_before : ℕ → Phase → ℕ
+abbrev pub closed_before : ℕ → Phase → ℕ
 closed_before queries phase.Idle = 0
 closed_before queries (phase.Stapling number) = number - 1
 closed_before queries (phase.Querying number staple) = number - 1
@@ -134,7 +136,7 @@ abbrev pub closed_in : Scheme → ℕ → Phase → ℕ
 closed_in scheme.Deferred queries awaited = 0
 closed_in _ queries awaited = closed_before queries awaited
 
-abbrev gathered_before : ℕ → Phase → ℕ
+abbrev pub gathered_before : ℕ → Phase → ℕ
 gathered_before queries phase.Idle = 0
 gathered_before queries (phase.Stapling number) = number - 1
 gathered_before queries (phase.Querying number staple) = number - 1
@@ -218,28 +220,125 @@ so_far_idle sc facts place txn declared =
       rising = tt;
     }
 
--- a deferred transaction closes and gathers nothing before its commit, so it stays so in whatever phase comes next
-pub so_far_on : (sc : Scenario) (facts : List Fact) (place : ℕ) (txn : TxnId) (declared : Transaction) (awaited next : Phase) (instances : List Instance) (gathered : List Verdict) → declared.scheme ≡ scheme.Deferred
+-- two phases before which as many are closed, where the scheme closes one at each query
+pub closed_as : (chosen : Scheme) (queries : ℕ) (one other : Phase) → closed_before queries one ≡ closed_before queries other → closed_in chosen queries one ≡ closed_in chosen queries other
+closed_as scheme.Deferred queries one other e = refl
+closed_as scheme.Punctual queries one other e = e
+closed_as scheme.Incremental queries one other e = e
+closed_as scheme.Continuous queries one other e = e
+
+-- or as many gathered, where the scheme gathers the proofs of its queries
+pub gathered_as : (chosen : Scheme) (queries : ℕ) (one other : Phase) → gathered_before queries one ≡ gathered_before queries other → gathered_in chosen queries one ≡ gathered_in chosen queries other
+gathered_as scheme.Deferred queries one other e = refl
+gathered_as scheme.Punctual queries one other e = refl
+gathered_as scheme.Incremental queries one other e = e
+gathered_as scheme.Continuous queries one other e = refl
+
+-- the other schemes gather none
+pub none_gathered : (chosen : Scheme) (queries : ℕ) (awaited : Phase) → is_incremental chosen ≡ false → gathered_in chosen queries awaited ≡ 0
+none_gathered scheme.Deferred queries awaited e = refl
+none_gathered scheme.Punctual queries awaited e = refl
+none_gathered scheme.Continuous queries awaited e = refl
+none_gathered scheme.Incremental queries awaited e = absurd (cc)
+
+-- what is closed and gathered stays as it is in a phase before which as much is
+pub so_far_on : (sc : Scenario) (facts : List Fact) (place : ℕ) (txn : TxnId) (declared : Transaction) (awaited next : Phase) (instances : List Instance) (gathered : List Verdict)
+    → closed_in declared.scheme (length declared.queries) awaited ≡ closed_in declared.scheme (length declared.queries) next → gathered_in declared.scheme (length declared.queries) awaited ≡ gathered_in declared.scheme (length declared.queries) next
     → IsSoFar sc facts place txn declared awaited instances gathered → IsSoFar sc facts place txn declared next instances gathered
-so_far_on sc facts place txn declared awaited next instances gathered deferred h =
+so_far_on sc facts place txn declared awaited next instances gathered closed gathers h =
     record {
-      count = h.count ∙ (none_closed awaited ∙ sym (none_closed next));
+      count = h.count ∙ closed;
       demanded = h.demanded;
       follow = h.follow;
       trusted = h.trusted;
       fronts = h.fronts;
-      numbers = h.numbers ∙ ap (range_with_len 1) (none_gathered awaited ∙ sym (none_gathered next));
+      numbers = h.numbers ∙ ap (range_with_len 1) gathers;
       right = h.right;
       have_rules = h.have_rules;
       one_version = h.one_version;
       rising = h.rising;
     }
-  where
-    none_closed : (any : Phase) → closed_in declared.scheme (length declared.queries) any ≡ 0
-    none_closed any = ap (λ (s : Scheme). closed_in s (length declared.queries) any) deferred
 
-    none_gathered : (any : Phase) → gathered_in declared.scheme (length declared.queries) any ≡ 0
-    none_gathered any = ap (λ (s : Scheme). gathered_in s (length declared.queries) any) deferred
+-- ---- what comes after all that is closed and gathered
+
+-- each of these verdicts was made after all of it
+abbrev pub AreAbove : List Instance → List Verdict → List Verdict → Type 0
+AreAbove instances gathered verdicts = Each (λ (verdict : Verdict). IsAbove verdict.place instances gathered) verdicts
+
+after_reading : (reading : Option ℕ) (place : ℕ) → IfSome reading (λ (read : ℕ). read < place) → is_after_reading reading place ≡ true
+after_reading None place h = refl
+after_reading (Some read) place h = lt-ltb read place h
+
+later_proof : (one : Instance) (proof : Verdict) → IsEarlierInstance proof.place one → is_later one proof ≡ true
+later_proof one proof h =
+    and_from _ _ (all_from_each (λ (other : Verdict). other.place < proof.place) (is_earlier_proof proof) (λ other less. lt-ltb other.place proof.place less) one.proofs h.proofs) (after_reading one.reading proof.place h.reading)
+
+later_proofs : (one : Instance) (proofs : List Verdict) → Each (λ (proof : Verdict). IsEarlierInstance proof.place one) proofs → list_all (is_later one) proofs ≡ true
+later_proofs one proofs h = all_from_each (λ (proof : Verdict). IsEarlierInstance proof.place one) (is_later one) (λ proof earlier. later_proof one proof earlier) proofs h
+
+follows_later : (chosen : Scheme) (one next : Instance) → is_incremental chosen ≡ false → list_all (is_later one) next.proofs ≡ true → follows chosen one next ≡ true
+follows_later scheme.Deferred one next e later = refl
+follows_later scheme.Punctual one next e later = later
+follows_later scheme.Continuous one next e later = later
+follows_later scheme.Incremental one next e later = absurd (cc)
+
+-- so an instance of such verdicts follows the last one that is closed
+follows_last : (chosen : Scheme) (instances : List Instance) (gathered : List Verdict) (next : Instance) → is_incremental chosen ≡ false → AreAbove instances gathered next.proofs → FollowsLast chosen instances next
+follows_last chosen [] gathered next e h = tt
+follows_last chosen (one ∷ []) gathered next e h =
+    follows_later chosen one next e
+    (later_proofs one next.proofs (each_as (λ (proof : Verdict). IsAbove proof.place (one ∷ []) gathered) (λ (proof : Verdict). IsEarlierInstance proof.place one) (λ proof above. above.closed.0) next.proofs h))
+follows_last chosen (one ∷ other ∷ instances) gathered next e h =
+    follows_last chosen (other ∷ instances) gathered next e
+    (each_as (λ (proof : Verdict). IsAbove proof.place (one ∷ other ∷ instances) gathered) (λ (proof : Verdict). IsAbove proof.place (other ∷ instances) gathered)
+    (λ proof above. record { closed = above.closed.1; gathered_before = above.gathered_before }) next.proofs h)
+
+-- ---- the proof of a query that was proved as it ran
+
+-- an instance of its own
+abbrev pub own_instance : Verdict → Instance
+own_instance verdict = record { reading = None; proofs = verdict ∷ [] }
+
+own_over : (verdict : Verdict) (number : ℕ) → verdict.query ≡ number → is_over number 1 (verdict ∷ []) ≡ true
+own_over verdict number e = and_from (verdict.query == number) true (eq-eqb verdict.query number e) refl
+
+own_demanded : (sc : Scenario) (facts : List Fact) (declared : Transaction) (verdict : Verdict) (number : ℕ) → declared.scheme ≡ scheme.Punctual → number ≤ length declared.queries → verdict.query ≡ number
+    → is_instance sc facts declared number (own_instance verdict) ≡ true
+own_demanded sc facts declared verdict number punctual most on =
+    let queries = length declared.queries in
+    let consistent = is_consistent sc declared facts (own_instance verdict) in
+    ap (λ (s : Scheme). is_over (first_of s queries number) (many_of s queries number) (verdict ∷ []) && (if agrees_at s queries number then consistent else true)) punctual
+    ∙ (ap (λ (b : Bool). is_over (if b then number else 1) (if b then 1 else queries) (verdict ∷ []) && (if nat_lt queries number then consistent else true)) (le-leb number queries most)
+    ∙ (ap (λ (b : Bool). is_over number 1 (verdict ∷ []) && (if b then consistent else true)) (le-ltb number queries most)
+    ∙ and_from (is_over number 1 (verdict ∷ [])) true (own_over verdict number on) refl))
+  where
+    le-ltb : (low high : ℕ) → low ≤ high → nat_lt high low ≡ false
+    le-ltb low high le = grind (arith, nat_tests)
+
+-- with it what a punctual transaction has closed is what it demands up to its query
+pub own_closed : (sc : Scenario) (facts : List Fact) (place : ℕ) (txn : TxnId) (declared : Transaction) (number : ℕ) (staple : Option Staple) (instances : List Instance) (gathered : List Verdict) (verdict : Verdict)
+    → declared.scheme ≡ scheme.Punctual → 1 ≤ number → number ≤ length declared.queries → verdict.query ≡ number → Right sc facts place txn verdict → has_rule verdict ≡ true → IsAbove verdict.place instances gathered
+    → IsSoFar sc facts place txn declared (phase.Querying number staple) instances gathered → IsSoFar sc facts place txn declared (phase.Stapling (number + 1)) (instances ++ own_instance verdict ∷ []) gathered
+own_closed sc facts place txn declared number staple instances gathered verdict punctual low most on right true_one above h =
+    let queries = length declared.queries in
+    let one = own_instance verdict in
+    let not_incremental : is_incremental declared.scheme ≡ false = ap is_incremental punctual in
+    let before : length instances ≡ number - 1 = h.count ∙ ap (λ (s : Scheme). closed_in s queries (phase.Querying number staple)) punctual in
+    let more : length (instances ++ one ∷ []) ≡ length instances + 1 = length_push instances one in
+    let many : length (instances ++ one ∷ []) ≡ number + 1 - 1 = omega (arith, before, more, low) in
+    let numbered : number ≡ 1 + length instances = omega (arith, before, low) in
+    record {
+      count = many ∙ sym (ap (λ (s : Scheme). closed_in s queries (phase.Stapling (number + 1))) punctual);
+      demanded = demanded_more sc facts declared 1 instances one h.demanded (subst (λ (n : ℕ). is_instance sc facts declared n one ≡ true) numbered (own_demanded sc facts declared verdict number punctual most on));
+      follow = follows_more declared.scheme instances one h.follow (follows_last declared.scheme instances gathered one not_incremental (above, tt));
+      trusted = each_append (IsTrustedInstance sc facts place txn) instances (one ∷ []) h.trusted (record { right = (right, tt); have_rules = and_from (has_rule verdict) true true_one refl; timely = tt }, tt);
+      fronts = λ incremental. let same : scheme.Punctual ≡ scheme.Incremental = sym punctual ∙ incremental in absurd (cc);
+      numbers = h.numbers ∙ ap (range_with_len 1) (none_gathered declared.scheme queries (phase.Querying number staple) not_incremental ∙ sym (none_gathered declared.scheme queries (phase.Stapling (number + 1)) not_incremental));
+      right = h.right;
+      have_rules = h.have_rules;
+      one_version = h.one_version;
+      rising = h.rising;
+    }
 
 -- ---- the demand at a commit
 
@@ -270,50 +369,64 @@ demand_met sc facts declared committed instances last is count demanded follow c
     (ap (are_instances sc facts declared 1) is ∙ demanded_more sc facts declared 1 instances last demanded closing))
     (ap (each_follows declared.scheme) is ∙ follows_more declared.scheme instances last follow after)) rounds
 
--- ---- a deferred commit under view consistency
+-- ---- the instance that is closed at commit
 
 pub same_numbers : (numbers : List ℕ) → pointwise ◌==◌ numbers numbers ≡ true
 same_numbers [] = refl
 same_numbers (n ∷ numbers) = and_from (n == n) (pointwise ◌==◌ numbers numbers) (number_itself n) (same_numbers numbers)
 
-deferred_instance : (sc : Scenario) (facts : List Fact) (declared : Transaction) (number : ℕ) (instance : Instance) → declared.scheme ≡ scheme.Deferred → is_over 1 (length declared.queries) instance.proofs ≡ true
-    → is_consistent sc declared facts instance ≡ true → is_instance sc facts declared number instance ≡ true
-deferred_instance sc facts declared number instance deferred over consistent =
+-- with it there are as many as the scheme demands
+closed_all : (chosen : Scheme) (reads : Bool) (queries : ℕ) (awaited : Phase) → is_incremental chosen ≡ false → closed_before queries awaited ≡ queries → closed_in chosen queries awaited + 1 ≡ count_of chosen reads queries
+closed_all scheme.Deferred reads queries awaited e all = refl
+closed_all scheme.Punctual reads queries awaited e all = ap (λ (n : ℕ). n + 1) all
+closed_all scheme.Continuous reads queries awaited e all = ap (λ (n : ℕ). n + 1) all
+closed_all scheme.Incremental reads queries awaited e all = absurd (cc)
+
+-- an instance over all queries, which are to agree
+record IsOverAll (chosen : Scheme) (queries number : ℕ) : Type 0 where
+  first : first_of chosen queries number ≡ 1
+  many : many_of chosen queries number ≡ queries
+  agrees : agrees_at chosen queries number ≡ true
+
+past_all : (queries number : ℕ) → number ≡ 1 + queries → nat_le number queries ≡ false
+past_all queries number e = grind (arith, nat_tests)
+
+after_all : (queries number : ℕ) → number ≡ 1 + queries → nat_lt queries number ≡ true
+after_all queries number e = grind (arith, nat_tests)
+
+over_all : (chosen : Scheme) (queries number : ℕ) (awaited : Phase) → is_incremental chosen ≡ false → closed_before queries awaited ≡ queries → number ≡ 1 + closed_in chosen queries awaited → IsOverAll chosen queries number
+over_all scheme.Deferred queries number awaited e all is = record { first = refl; many = refl; agrees = refl }
+over_all scheme.Punctual queries number awaited e all is =
+    let last : number ≡ 1 + queries = is ∙ ap (λ (n : ℕ). 1 + n) all in
+    record { first = ap (λ (b : Bool). if b then number else 1) (past_all queries number last); many = ap (λ (b : Bool). if b then 1 else queries) (past_all queries number last); agrees = after_all queries number last }
+over_all scheme.Continuous queries number awaited e all is =
+    let last : number ≡ 1 + queries = is ∙ ap (λ (n : ℕ). 1 + n) all in
+    record { first = refl; many = omega (arith, last); agrees = refl }
+over_all scheme.Incremental queries number awaited e all is = absurd (cc)
+
+demanded_last : (sc : Scenario) (facts : List Fact) (declared : Transaction) (number : ℕ) (last : Instance) → IsOverAll declared.scheme (length declared.queries) number → is_over 1 (length declared.queries) last.proofs ≡ true
+    → is_consistent sc declared facts last ≡ true → is_instance sc facts declared number last ≡ true
+demanded_last sc facts declared number last h over consistent =
+    and_from _ _ (ap (λ (first : ℕ). is_over first (many_of declared.scheme (length declared.queries) number) last.proofs) h.first ∙ (ap (λ (many : ℕ). is_over 1 many last.proofs) h.many ∙ over))
+    (ap (λ (b : Bool). if b then is_consistent sc declared facts last else is_none last.reading) h.agrees ∙ consistent)
+
+rounds_counted : (sc : Scenario) (declared : Transaction) (rounds : ℕ) → is_incremental declared.scheme ≡ false → (1 ≤ rounds) × (rounds ≤ most_rounds sc declared) → is_round_count sc declared rounds ≡ true
+rounds_counted sc declared rounds e h =
+    ap (λ (b : Bool). if b then rounds == 0 else nat_le 1 rounds && nat_le rounds (most_rounds sc declared)) e
+    ∙ and_from _ _ (le-leb 1 rounds h.0) (le-leb rounds (most_rounds sc declared) h.1)
+
+-- proofs of all queries, made after all that is closed and consistent, close the last instance of a transaction that evaluates at commit
+pub closing_commit : (sc : Scenario) (facts : List Fact) (place : ℕ) (txn : TxnId) (declared : Transaction) (awaited : Phase) (instances : List Instance) (gathered : List Verdict) (last : Instance) (committed : CommitRecord)
+    → is_incremental declared.scheme ≡ false → closed_before (length declared.queries) awaited ≡ length declared.queries → IsSoFar sc facts place txn declared awaited instances gathered
+    → committed.instances ≡ instances ++ last ∷ [] → (1 ≤ committed.rounds) × (committed.rounds ≤ most_rounds sc declared) → numbers_of last.proofs ≡ range_with_len 1 (length declared.queries)
+    → is_consistent sc declared facts last ≡ true → AreAbove instances gathered last.proofs → IsTrustedInstance sc facts place txn last → IsTrustedCommit sc facts place txn declared committed
+closing_commit sc facts place txn declared awaited instances gathered last committed evaluates all h is rounds numbers consistent above trusted =
     let queries = length declared.queries in
-    ap (λ (s : Scheme). is_over (first_of s queries number) (many_of s queries number) instance.proofs && (if agrees_at s queries number then is_consistent sc declared facts instance else is_none instance.reading)) deferred
-    ∙ and_from _ _ over consistent
-
--- one round, or two
-view_rounds_fit : (sc : Scenario) (declared : Transaction) (rounds : ℕ) → declared.scheme ≡ scheme.Deferred → reads_master sc declared ≡ false → (rounds ≡ 1) ⊎ (rounds ≡ 2) → is_round_count sc declared rounds ≡ true
-view_rounds_fit sc declared rounds deferred view (inl one) =
-    ap (λ (s : Scheme). if is_incremental s then rounds == 0 else nat_le 1 rounds && nat_le rounds (most_rounds sc declared)) deferred
-    ∙ (ap (λ (n : ℕ). nat_le 1 n && nat_le n (most_rounds sc declared)) one ∙ ap (λ (b : Bool). nat_le 1 1 && nat_le 1 (if b then declared.rounds else 2)) view)
-view_rounds_fit sc declared rounds deferred view (inr two) =
-    ap (λ (s : Scheme). if is_incremental s then rounds == 0 else nat_le 1 rounds && nat_le rounds (most_rounds sc declared)) deferred
-    ∙ (ap (λ (n : ℕ). nat_le 1 n && nat_le n (most_rounds sc declared)) two ∙ ap (λ (b : Bool). nat_le 1 2 && nat_le 2 (if b then declared.rounds else 2)) view)
-
-none_left : (instances : List Instance) → length instances ≡ 0 → instances ≡ []
-none_left [] e = refl
-none_left (instance ∷ instances) e = absurd (omega (arith, e))
-
--- proofs of all queries, right, true and of one version, close the one instance of a deferred transaction that reads no master
-pub deferred_commit : (sc : Scenario) (facts : List Fact) (place : ℕ) (txn : TxnId) (declared : Transaction) (awaited : Phase) (instances : List Instance) (gathered proofs : List Verdict) (committed : CommitRecord)
-    → declared.scheme ≡ scheme.Deferred → reads_master sc declared ≡ false → IsSoFar sc facts place txn declared awaited instances gathered
-    → committed.instances ≡ instances ++ record { reading = None; proofs = proofs } ∷ [] → (committed.rounds ≡ 1) ⊎ (committed.rounds ≡ 2) → Each (Right sc facts place txn) proofs
-    → numbers_of proofs ≡ range_with_len 1 (length declared.queries) → list_all has_rule proofs ≡ true → is_one_version proofs ≡ true → IsTrustedCommit sc facts place txn declared committed
-deferred_commit sc facts place txn declared awaited instances gathered proofs committed deferred view h is rounds right numbers have_rules one_version =
-    let last : Instance = record { reading = None; proofs = proofs } in
-    let none : length instances ≡ 0 = h.count ∙ ap (λ (s : Scheme). closed_in s (length declared.queries) awaited) deferred in
-    let empty : instances ≡ [] = none_left instances none in
-    let count : length instances + 1 ≡ count_of declared.scheme (reads_master sc declared) (length declared.queries) =
-    ap (λ (n : ℕ). n + 1) none ∙ sym (ap (λ (s : Scheme). count_of s (reads_master sc declared) (length declared.queries)) deferred) in
-    let over : is_over 1 (length declared.queries) proofs ≡ true =
-    ap (λ (ns : List ℕ). pointwise ◌==◌ ns (range_with_len 1 (length declared.queries))) numbers ∙ same_numbers (range_with_len 1 (length declared.queries)) in
-    let unread : (if reads_master sc declared then meets_readings sc declared None facts proofs else true) ≡ true = ap (λ (b : Bool). if b then meets_readings sc declared None facts proofs else true) view in
+    let numbered : 1 + length instances ≡ 1 + closed_in declared.scheme queries awaited = ap (λ (n : ℕ). 1 + n) h.count in
+    let over : is_over 1 queries last.proofs ≡ true = ap (λ (ns : List ℕ). pointwise ◌==◌ ns (range_with_len 1 queries)) numbers ∙ same_numbers (range_with_len 1 queries) in
     record {
-      demanded = demand_met sc facts declared committed instances last is count h.demanded h.follow
-          (deferred_instance sc facts declared (1 + length instances) last deferred over (and_from _ _ one_version unread)) (subst (λ (ones : List Instance). FollowsLast declared.scheme ones last) (sym empty) tt)
-          (view_rounds_fit sc declared committed.rounds deferred view rounds);
-      trusted = subst (Each (IsTrustedInstance sc facts place txn)) (sym is)
-          (each_append (IsTrustedInstance sc facts place txn) instances (last ∷ []) h.trusted (record { right = right; have_rules = have_rules; timely = tt }, tt));
+      demanded = demand_met sc facts declared committed instances last is (ap (λ (n : ℕ). n + 1) h.count ∙ closed_all declared.scheme (reads_master sc declared) queries awaited evaluates all) h.demanded h.follow
+          (demanded_last sc facts declared (1 + length instances) last (over_all declared.scheme queries (1 + length instances) awaited evaluates all numbered) over consistent)
+          (follows_last declared.scheme instances gathered last evaluates above) (rounds_counted sc declared committed.rounds evaluates rounds);
+      trusted = subst (Each (IsTrustedInstance sc facts place txn)) (sym is) (each_append (IsTrustedInstance sc facts place txn) instances (last ∷ []) h.trusted (trusted, tt));
     }

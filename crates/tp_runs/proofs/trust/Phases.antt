@@ -1,10 +1,17 @@
 -- Trust: what a coordinator's phase rests on.
-use Rattle.std.proofs.Common.{IfSome, List, ℕ}
-use Rattle.tp_model.specs.Words.{Fact, Scenario, TxnId}
-use Rattle.tp_runs.proofs.trust.Fit.{IsSubmitted, Later, StapleFits, maybe_stays, staple_stays}
-use Rattle.tp_runs.proofs.trust.Rounds.{RoundFits, round_fits_later}
-use Rattle.tp_coord.specs.declared.coordinator.Phase.TheVariants as phase
+use Rattle.std.proofs.Common.{IfSome, List, is_some, true, ℕ, ◌≡◌}
+use Rattle.tp_types.specs.Each.{Each}
+use Rattle.tp_model.specs.Words.{Fact, Instance, Scenario, Scheme, Staple, TxnId, Verdict}
 use Rattle.tp_coord.specs.declared.coordinator.Phase.{Phase}
+use Rattle.tp_coord.specs.declared.coordinator.Phase.TheVariants as phase
+use Rattle.tp_round.specs.Replies.{verdicts_in}
+use Rattle.tp_round.specs.declared.round.Round.{Round}
+use Rattle.tp_round.specs.declared.round.Target.{Target}
+use Rattle.tp_scheme.specs.Moves.{proves_each}
+use Rattle.tp_runs.proofs.basics.Turns.{IsAbove}
+use Rattle.tp_runs.proofs.trust.Fit.{IsSubmitted, Later, StapleFits, maybe_stays, staple_stays}
+use Rattle.tp_runs.proofs.trust.Instances.{AreAbove}
+use Rattle.tp_runs.proofs.trust.Rounds.{RoundFits, round_fits_later}
 
 -- a coordinator awaits the answer to a request that fits
 abbrev pub PhaseFits : Scenario → List Fact → ℕ → TxnId → Phase → Type 0
@@ -14,7 +21,7 @@ PhaseFits sc facts place txn (phase.Querying number staple) = IsSubmitted facts 
 PhaseFits sc facts place txn (phase.Probing number) = IsSubmitted facts txn
 PhaseFits sc facts place txn (phase.Asking over round) = IsSubmitted facts txn × RoundFits sc facts place txn over round
 PhaseFits sc facts place txn (phase.Checking over round staple) = IsSubmitted facts txn × RoundFits sc facts place txn over round × StapleFits sc facts place txn staple
-PhaseFits sc facts place txn (phase.Reading over round) = IsSubmitted facts txn × RoundFits sc facts place txn over round
+PhaseFits sc facts place txn (phase.Reading over round) = IsSubmitted facts txn × RoundFits sc facts place txn over round × (round.reads ≡ true)
 PhaseFits sc facts place txn (phase.Voting awaited) = IsSubmitted facts txn
 PhaseFits sc facts place txn phase.VoteProbing = IsSubmitted facts txn
 PhaseFits sc facts place txn (phase.Ending ended awaited) = Unit {0}
@@ -29,7 +36,29 @@ phase_stays sc old new low high txn (phase.Querying number staple) l h =
 phase_stays sc old new low high txn (phase.Asking over round) l h = (l.more txn h.0, round_fits_later sc old new low high txn over round l h.1)
 phase_stays sc old new low high txn (phase.Checking over round staple) l h =
     (l.more txn h.0, round_fits_later sc old new low high txn over round l h.1, staple_stays sc old new low high txn staple l h.2)
-phase_stays sc old new low high txn (phase.Reading over round) l h = (l.more txn h.0, round_fits_later sc old new low high txn over round l h.1)
+phase_stays sc old new low high txn (phase.Reading over round) l h = (l.more txn h.0, round_fits_later sc old new low high txn over round l h.1, h.2)
 phase_stays sc old new low high txn (phase.Voting awaited) l h = l.more txn h
 phase_stays sc old new low high txn phase.VoteProbing l h = l.more txn h
 phase_stays sc old new low high txn (phase.Ending ended awaited) l h = tt
+
+-- ---- what was made after all that is closed and gathered
+
+-- so was each reply of a round
+abbrev pub IsRepliedAfter : List Instance → List Verdict → Round → Type 0
+IsRepliedAfter instances gathered round = Each (λ (target : Target). AreAbove instances gathered (verdicts_in target)) round.targets
+
+-- and the staple that a phase has
+abbrev pub IsMadeAfter : List Instance → List Verdict → Phase → Type 0
+IsMadeAfter instances gathered (phase.Querying number staple) = IfSome staple (λ (given : Staple). IsAbove given.place instances gathered)
+IsMadeAfter instances gathered (phase.Asking over round) = IsRepliedAfter instances gathered round
+IsMadeAfter instances gathered (phase.Checking over round staple) = IsAbove staple.place instances gathered × IsRepliedAfter instances gathered round
+IsMadeAfter instances gathered (phase.Reading over round) = IsRepliedAfter instances gathered round
+IsMadeAfter instances gathered _ = Unit {0}
+
+-- ---- phases of a scheme
+
+-- the authority is asked before a query where the scheme proves each, and a query has its staple exactly there
+abbrev pub Suits : Scheme → Phase → Type 0
+Suits chosen (phase.Stapling number) = proves_each chosen ≡ true
+Suits chosen (phase.Querying number staple) = is_some staple ≡ proves_each chosen
+Suits chosen _ = Unit {0}

@@ -278,3 +278,14 @@ round_updated sc facts place txn over round reading named valid h r e =
       fits = subst (λ answer. RoundFits sc facts place txn over (after round (aim_in round reading) (met_in round reading) answer)) (sym e)
           (next_fits sc facts place txn over round reading named there.0 u);
     }
+
+renewed_as : (P : Target → Type 0) (one : Target) (b : Bool) → P (new_target one.server) → P one → P (cond b (new_target one.server) one)
+renewed_as P one true new old = new
+renewed_as P one false new old = old
+
+-- what holds of its targets, and of one that is asked anew, holds of those of the next round
+pub updated_keeps : (P : Target → Type 0) (round : Round) (reading : Option Reading) (named : List Wanted) → judge round reading ≡ Update named → ((server : ServerId) → P (new_target server)) → Each P round.targets
+    → Each P (after_judgement round reading).targets
+updated_keeps P round reading named e new h =
+    let aim = aim_in round reading in
+    subst (λ answer. Each P (after round aim (met_in round reading) answer).targets) (sym e) (each_map P P (next_target aim) (λ one old. renewed_as P one (is_outdated aim one) (new one.server) old) round.targets h)

@@ -1,21 +1,26 @@
 -- The levels of a round's proofs: each is of an administrator of its transaction, and the master is read where one is
 -- under global consistency.
-use Rattle.std.specs.List.{list_any}
-use Rattle.std.specs.Option.{option_map_or}
-use Rattle.std.proofs.Common.{Bool, Contains, IfSome, List, None, Option, Some, [], ap, arith, false, if◌then◌else◌, inl, length, nat_le, not, refl, replicate, slice_get, subst, suc, sym, true, unwrap_or, zero, ℕ, ◌<◌, ◌∙◌, ◌∷◌, ◌≡◌, ◌≤◌}
+use Rattle.std.proofs.Common.{Bool, Contains, IfSome, List, None, Option, Some, [], ap, arith, false, inl, length, nat_le, not, refl, replicate, slice_get, subst, suc, sym, true, unwrap_or, zero, ℕ, if◌then◌else◌, ◌<◌, ◌∙◌, ◌∷◌, ◌≡◌, ◌≤◌}
 use Rattle.std.proofs.lemmas.Bool.{and_parts, not_from_false, or_from, or_left, or_parts, or_right}
 use Rattle.std.proofs.lemmas.Bool.Decides.{nat_tests}
 use Rattle.std.proofs.lemmas.Option.{same_Some}
+use Rattle.std.specs.List.{list_any}
+use Rattle.std.specs.Option.{option_map_or}
+use Rattle.tp_types.proofs.EachLemmas.{each_as, each_both, each_flat_map, each_get, missing}
 use Rattle.tp_types.proofs.ListLemmas.{three_parts}
-use Rattle.tp_coord.specs.declared.coordinator.Span.{Span}
+use Rattle.tp_types.specs.Each.{Each}
 use Rattle.tp_model.specs.Authorisation.{is_item_at, is_own_query, is_query_at}
 use Rattle.tp_model.specs.Causes.{is_own_admin, is_query_of}
 use Rattle.tp_model.specs.Ids.{same_admin, same_server}
-use Rattle.tp_model.specs.Levels.{is_global, level_of, reads_master}
+use Rattle.tp_model.specs.Levels.{is_global, is_global_item, is_global_query, level_of, reads_master}
 use Rattle.tp_model.specs.Limits.{admins_limit, is_from_to, rounds_limit, view_rounds}
-use Rattle.tp_model.specs.Valid.{has_valid_creds, is_valid_txn}
 use Rattle.tp_model.specs.Queries.{item_of, query_at}
+use Rattle.tp_model.specs.Valid.{has_valid_creds, is_valid_txn}
 use Rattle.tp_model.specs.Words.{AdminId, Fact, Item, Level, Query, Scenario, ServerId, Transaction, TxnId, Verdict}
+use Rattle.tp_model.specs.Words.level
+use Rattle.tp_coord.specs.Row.{level_read, limit_of}
+use Rattle.tp_coord.specs.declared.coordinator.Span.{Span}
+use Rattle.tp_machine.specs.Named.{IsAdmin}
 use Rattle.tp_round.proofs.AdminLemmas.{any_admin, same_ids}
 use Rattle.tp_round.proofs.LevelLemmas.{level_for_each}
 use Rattle.tp_round.proofs.NamesLemmas.{admins_in}
@@ -24,11 +29,9 @@ use Rattle.tp_round.specs.Judge.{first_round, is_global_at}
 use Rattle.tp_round.specs.Laws.{is_read_for}
 use Rattle.tp_round.specs.Replies.{proofs_in, verdicts_in}
 use Rattle.tp_round.specs.declared.round.Round.{Round}
-use Rattle.tp_types.proofs.EachLemmas.{each_as, each_both, each_flat_map, each_get}
-use Rattle.tp_types.specs.Each.{Each}
-use Rattle.tp_machine.specs.Named.{IsAdmin}
 use Rattle.tp_runs.proofs.basics.Facts.{all_from_each}
-use Rattle.tp_runs.proofs.basics.Levels.{LevelsFit, limit_of, own_admin, reads_where, spanned_admin}
+use Rattle.tp_runs.proofs.basics.Homes.{HaveHomes}
+use Rattle.tp_runs.proofs.basics.Levels.{LevelsFit, own_admin, reads_where, spanned_admin}
 use Rattle.tp_runs.proofs.basics.Phases.{last_spanned, spanned}
 use Rattle.tp_runs.proofs.basics.Servers.{servers_over}
 use Rattle.tp_runs.proofs.basics.Verdicts.{numbers_of}
@@ -61,7 +64,7 @@ own_exists : (sc : Scenario) (at : ServerId) (admin : AdminId) (query : Option Q
 own_exists sc at admin None valid e = absurd (cc)
 own_exists sc at admin (Some query) valid e = query_exists sc at admin query valid e
 
-own_proof : (sc : Scenario) (facts : List Fact) (place : ℕ) (txn : TxnId) (declared : Transaction) (verdict : Verdict) → IsValid sc → slice_get sc.txns txn.0 ≡ Some declared → Right sc facts place txn verdict → IsOwnProof sc declared verdict
+pub own_proof : (sc : Scenario) (facts : List Fact) (place : ℕ) (txn : TxnId) (declared : Transaction) (verdict : Verdict) → IsValid sc → slice_get sc.txns txn.0 ≡ Some declared → Right sc facts place txn verdict → IsOwnProof sc declared verdict
 own_proof sc facts place txn declared verdict valid found right =
     let own : is_own_query sc declared verdict.query verdict.server verdict.admin ≡ true = (right declared found).own in
     record { exists = own_exists sc verdict.server verdict.admin (query_at declared verdict.query) valid own; own = own_admin sc declared verdict.query verdict.server verdict.admin own }
@@ -129,17 +132,52 @@ limit_between : (sc : Scenario) (declared : Transaction) → is_valid_txn sc dec
 limit_between sc declared e =
     limit_by declared.rounds (reads_master sc declared) (rounds_between declared.rounds (three_parts (has_valid_creds sc declared) (is_from_to 1 rounds_limit declared.rounds) _ e).1)
 
--- the first round with the limit and the levels of its transaction, and that reads the master where the transaction does
-pub round_begins : (sc : Scenario) (facts : List Fact) (place : ℕ) (txn : TxnId) (over : Span) (declared : Transaction) → IsValid sc → slice_get sc.txns txn.0 ≡ Some declared
-    → RoundFits sc facts place txn over (first_round (servers_over sc txn over) (limit_of sc declared) (replicate admins_limit declared.level) (reads_master sc declared))
-round_begins sc facts place txn over declared valid found =
+-- a transaction of the level view reads no master
+view_reads_none : (sc : Scenario) (declared : Transaction) → is_global declared.level ≡ false → (queries : List Query) → list_any (is_global_query sc declared) queries ≡ false
+view_reads_none sc declared view [] = refl
+view_reads_none sc declared view (asked ∷ queries) = or_from (is_global_query sc declared asked) (list_any (is_global_query sc declared) queries) (of_item (slice_get sc.items (item_of asked).0)) (view_reads_none sc declared view queries)
+  where
+    of_item : (item : Option Item) → option_map_or (is_global_item declared) item false ≡ false
+    of_item None = refl
+    of_item (Some item) = view
+
+-- one of the level global does, as it has a query, whose item exists
+global_reads : (sc : Scenario) (declared : Transaction) → is_global declared.level ≡ true → (queries : List Query) → 0 < length queries → Each (λ (query : Query). (item_of query).0 < length sc.items) queries
+    → list_any (is_global_query sc declared) queries ≡ true
+global_reads sc declared global [] some on = absurd (omega (arith, some))
+global_reads sc declared global (asked ∷ queries) some on = or_left (is_global_query sc declared asked) (list_any (is_global_query sc declared) queries) (of_item (slice_get sc.items (item_of asked).0) refl)
+  where
+    of_item : (item : Option Item) → slice_get sc.items (item_of asked).0 ≡ item → option_map_or (is_global_item declared) item false ≡ true
+    of_item None e = absurd (missing sc.items (item_of asked).0 on.0 e)
+    of_item (Some item) e = global
+
+reads_by_level : (sc : Scenario) (declared : Transaction) (b : Bool) → is_global declared.level ≡ b → 0 < length declared.queries → Each (λ (query : Query). (item_of query).0 < length sc.items) declared.queries
+    → reads_master sc declared ≡ b
+reads_by_level sc declared false e some on = view_reads_none sc declared e declared.queries
+reads_by_level sc declared true e some on = global_reads sc declared e declared.queries some on
+
+-- so it reads the master exactly where its level is global
+reads_global : (sc : Scenario) (n : ℕ) (declared : Transaction) → HaveHomes sc → slice_get sc.txns n ≡ Some declared → reads_master sc declared ≡ is_global declared.level
+reads_global sc n declared homes found = reads_by_level sc declared (is_global declared.level) refl (homes.some n declared found) (homes.on_items n declared found)
+
+read_level : (b : Bool) → is_global (if b then level.Global else level.View) ≡ b
+read_level true = refl
+read_level false = refl
+
+-- the first round with the limit of its transaction, at the level that it is run at
+pub round_begins : (sc : Scenario) (facts : List Fact) (place : ℕ) (txn : TxnId) (over : Span) (declared : Transaction) → HaveHomes sc → IsValid sc → slice_get sc.txns txn.0 ≡ Some declared
+    → RoundFits sc facts place txn over (first_round (servers_over sc txn over) (limit_of sc declared) (replicate admins_limit (level_read sc declared)) (is_global (level_read sc declared)))
+round_begins sc facts place txn over declared homes valid found =
     let between = limit_between sc declared (each_get (λ (t : Transaction). is_valid_txn sc t ≡ true) sc.txns txn.0 declared valid.txns found) in
     let same : (other : Transaction) → slice_get sc.txns txn.0 ≡ Some other → declared ≡ other = λ other there. same_Some declared other (sym found ∙ there) in
-    let fit : LevelsFit sc declared (replicate admins_limit declared.level) = λ admin exists. level_for_each declared.level admin (let few = valid.few_admins in omega (arith, exists, few)) in
+    let reads : is_global (level_read sc declared) ≡ reads_master sc declared = read_level (reads_master sc declared) in
+    let levels = replicate admins_limit (level_read sc declared) in
+    let fit : LevelsFit sc declared levels = λ admin exists.
+    level_for_each (level_read sc declared) admin (let few = valid.few_admins in omega (arith, exists, few)) ∙ (reads ∙ reads_global sc txn.0 declared homes found) in
     record {
       limit = λ other there. ap (limit_of sc) (same other there);
-      levels = λ other there. subst (λ (t : Transaction). LevelsFit sc t (replicate admins_limit declared.level)) (same other there) fit;
-      reads = λ other there. ap (reads_master sc) (same other there);
+      levels = λ other there. subst (λ (t : Transaction). LevelsFit sc t levels) (same other there) fit;
+      reads = λ other there. reads ∙ ap (reads_master sc) (same other there);
       servers = new_servers (servers_over sc txn over);
       targets = new_fit sc facts place txn over (servers_over sc txn over);
       count = inl (record { number = refl; aim = refl; named = refl; mets = refl });

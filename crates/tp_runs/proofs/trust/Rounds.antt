@@ -1,52 +1,48 @@
 -- Rounds of a coordinator: what a round rests on, at its start, as facts are added, and after each reply.
+use Rattle.std.proofs.Common.{Bool, IfSome, List, None, Option, Some, [], ap, arith, cond, false, find, inl, inr, is_none, length, map, refl, slice_get, subst, suc, sym, true, zero, ℕ, if◌then◌else◌, ◌+◌, ◌<◌, ◌==◌, ◌||◌, ◌∙◌, ◌∷◌, ◌≡◌, ◌≤◌, ◌⊎◌}
+use Rattle.std.proofs.lemmas.Bool.{and_from, and_parts, eq-eqb, eqb-true}
 use Rattle.std.specs.List.{count_by, list_all, list_any}
 use Rattle.std.specs.Option.{option_map_or}
-use Rattle.std.proofs.Common.{Bool, IfSome, List, None, Option, Some, [], ap, arith, cond, false, find, if◌then◌else◌, inl, inr, is_none, length, map, refl, replicate, slice_get, subst, suc, sym, true, zero, ℕ, ◌+◌, ◌==◌, ◌||◌, ◌∙◌, ◌∷◌, ◌≡◌, ◌<◌, ◌≤◌, ◌⊎◌}
-use Rattle.std.proofs.lemmas.Bool.{and_from, and_parts, eq-eqb, eqb-true}
+use Rattle.tp_types.proofs.EachLemmas.{by_cond, each_as, each_flat_map, each_get, each_more, each_of_all, each_two}
 use Rattle.tp_types.proofs.ListLemmas.{number_itself}
+use Rattle.tp_types.specs.Each.{Each}
+use Rattle.tp_model.specs.Agreement.{has_item}
 use Rattle.tp_model.specs.Authorisation.{is_item_at, is_own_query, is_query_at}
-use Rattle.tp_model.specs.Ids.{same_admin, same_server}
 use Rattle.tp_model.specs.Causes.{are_met_on, is_met_shown}
 use Rattle.tp_model.specs.Demand.{most_rounds}
+use Rattle.tp_model.specs.Ids.{same_admin, same_server}
 use Rattle.tp_model.specs.Levels.{is_global, level_of, reads_master}
-use Rattle.tp_model.specs.Limits.{admins_limit, rounds_limit, view_rounds}
-use Rattle.tp_model.specs.Versions.{is_publication, newest, opening_version}
+use Rattle.tp_model.specs.Limits.{is_empty, rounds_limit, view_rounds}
 use Rattle.tp_model.specs.Queries.{is_at_server, item_of, query_at, servers_of}
-use Rattle.tp_model.specs.Words.level
+use Rattle.tp_model.specs.Versions.{is_publication, newest, opening_version}
 use Rattle.tp_model.specs.Words.{AdminId, Fact, Item, Met, Query, Reading, Scenario, ServerId, Transaction, TxnId, Verdict, Version}
+use Rattle.tp_coord.specs.Row.{limit_of, server_of_target, want_for}
+use Rattle.tp_coord.specs.declared.coordinator.Span.{Span}
+use Rattle.tp_coord.specs.declared.coordinator.Span.TheVariants as span
+use Rattle.tp_machine.specs.Named.{IsAdmin}
+use Rattle.tp_round.proofs.AgreedLemmas.{false_is_least}
+use Rattle.tp_round.proofs.KeptLemmas.{server_of, servers_replied}
+use Rattle.tp_round.proofs.RoundsLemmas.{IsCounted, aimed_has, are_wanted_at, is_wanted_at, reply_keeps}
+use Rattle.tp_round.proofs.VersionLemmas.{are_at, is_at}
+use Rattle.tp_round.specs.Judge.{after_reply, awaits, is_aimed, is_missing, judge, new_target, with_reply}
+use Rattle.tp_round.specs.Replies.{proofs_in, verdicts_in}
 use Rattle.tp_round.specs.declared.round.Judged.TheVariants.{False}
 use Rattle.tp_round.specs.declared.round.Round.{Round}
 use Rattle.tp_round.specs.declared.round.Target.{Target}
 use Rattle.tp_round.specs.declared.round.Wanted.{Wanted}
-use Rattle.tp_round.specs.Judge.{after_reply, awaits, first_round, is_aimed, is_missing, judge, new_target, with_reply}
-use Rattle.tp_round.specs.Replies.{proofs_in, verdicts_in}
-use Rattle.tp_round.proofs.AgreedLemmas.{false_is_least}
-use Rattle.tp_round.proofs.KeptLemmas.{server_of, servers_replied}
-use Rattle.tp_round.proofs.LevelLemmas.{view_for_each}
-use Rattle.tp_round.proofs.RoundsLemmas.{IsCounted, aimed_has, are_wanted_at, is_wanted_at, reply_keeps}
-use Rattle.tp_round.proofs.VersionLemmas.{are_at, is_at}
-use Rattle.tp_runs.proofs.basics.Verdicts.{numbers_of}
-use Rattle.tp_types.proofs.EachLemmas.{by_cond, each_as, each_flat_map, each_get, each_more, each_of_all, each_two}
 use Rattle.tp_runs.proofs.basics.Aims.{is_within}
-use Rattle.tp_runs.proofs.basics.Levels.{LevelsFit, has_view, is_view_query, limit_of, reads_unviewed}
+use Rattle.tp_runs.proofs.basics.Levels.{LevelsFit, has_view, is_view_query, reads_unviewed}
 use Rattle.tp_runs.proofs.basics.Phases.{last_spanned, only_spanned, spanned, spanned_any, spanned_get}
 use Rattle.tp_runs.proofs.basics.Rounds.{EachServer, each_missing, missing_in}
+use Rattle.tp_runs.proofs.basics.Servers.{has_item_over, servers_over, servers_over_have}
+use Rattle.tp_runs.proofs.basics.Turns.{WantNow}
+use Rattle.tp_runs.proofs.basics.Verdicts.{numbers_of}
 use Rattle.tp_runs.proofs.pairs.Actors.{site_of}
 use Rattle.tp_runs.proofs.pairs.CoordinatorRows.{NamesAt}
-use Rattle.tp_runs.proofs.basics.Servers.{has_item_over, servers_over, servers_over_have}
 use Rattle.tp_runs.proofs.pairs.Fits.{Names, NamesUpto}
-use Rattle.tp_runs.proofs.basics.Turns.{WantNow}
-use Rattle.tp_coord.specs.Row.{server_of_target, want_for}
-use Rattle.tp_model.specs.Agreement.{has_item}
-use Rattle.tp_machine.specs.Named.{IsAdmin}
-use Rattle.tp_model.specs.Limits.{is_empty}
 use Rattle.tp_runs.proofs.pairs.Site.{Site, here, here_within, upto, with_number}
-use Rattle.tp_runs.proofs.trust.Built.{ArePlain}
 use Rattle.tp_runs.proofs.trust.Causes.{met_on_stays, met_past, mets_stay}
 use Rattle.tp_runs.proofs.trust.Fit.{IsPublished, Later, Right, newest_rises, right_stays}
-use Rattle.tp_types.specs.Each.{Each}
-use Rattle.tp_coord.specs.declared.coordinator.Span.TheVariants as span
-use Rattle.tp_coord.specs.declared.coordinator.Span.{Span}
 
 -- ---- what a round rests on
 
@@ -143,26 +139,6 @@ new_servers (server ∷ servers) = ap (λ (others : List ServerId). server ∷ o
 pub new_fit : (sc : Scenario) (facts : List Fact) (place : ℕ) (txn : TxnId) (over : Span) (servers : List ServerId) → Each (TargetFits sc facts place txn over) (map new_target servers)
 new_fit sc facts place txn over [] = tt
 new_fit sc facts place txn over (server ∷ servers) = (record { right = tt; numbers = tt }, new_fit sc facts place txn over servers)
-
--- the first round of a transaction that reads no master, before any reply
-pub round_starts : (sc : Scenario) (facts : List Fact) (place : ℕ) (txn : TxnId) (over : Span) → ArePlain sc → RoundFits sc facts place txn over (first_round (servers_over sc txn over) view_rounds (replicate admins_limit level.View) false)
-round_starts sc facts place txn over plain =
-    let unread : (declared : Transaction) → slice_get sc.txns txn.0 ≡ Some declared → reads_master sc declared ≡ false =
-    λ declared found. each_get (λ (t : Transaction). reads_master sc t ≡ false) sc.txns txn.0 declared plain.view found in
-    let view : (declared : Transaction) → slice_get sc.txns txn.0 ≡ Some declared → (admin : AdminId) → is_global (level_of declared admin) ≡ false =
-    λ declared found. each_get (λ (t : Transaction). (admin : AdminId) → is_global (level_of t admin) ≡ false) sc.txns txn.0 declared plain.levels found in
-    record {
-      limit = λ declared found. sym (ap (λ (b : Bool). cond b declared.rounds view_rounds) (unread declared found));
-      levels = λ declared found admin exists. view_for_each admin ∙ sym (view declared found admin);
-      reads = λ declared found. sym (unread declared found);
-      servers = new_servers (servers_over sc txn over);
-      targets = new_fit sc facts place txn over (servers_over sc txn over);
-      count = inl (record { number = refl; aim = refl; named = refl; mets = refl });
-      top = omega arith;
-      few = omega arith;
-      unread = λ none. refl;
-      mets = λ declared found. record { shown = refl; on = refl };
-    }
 
 -- ---- the round's number
 
@@ -481,7 +457,7 @@ replied_where : (P : Target → Type 0) (new target : Target) (targets more : Li
 replied_where P new target targets more true n t each rest = (n, each)
 replied_where P new target targets more false n t each rest = (t, rest)
 
-replied_each : (P : Target → Type 0) (targets : List Target) (server : ServerId) (verdicts : List Verdict) → P (record { server = server; reply = Some verdicts }) → Each P targets
+pub replied_each : (P : Target → Type 0) (targets : List Target) (server : ServerId) (verdicts : List Verdict) → P (record { server = server; reply = Some verdicts }) → Each P targets
     → Each P (with_reply targets server verdicts)
 replied_each P [] server verdicts new h = tt
 replied_each P (target ∷ targets) server verdicts new h =

@@ -144,8 +144,10 @@ pub coordinator_stays : (sc : Scenario) (old new : List Fact) (low high : ℕ) (
 coordinator_stays sc old new low high c l h =
     record {
       awaits = phase_stays sc old new low high c.txn c.phase l h.awaits;
+      suits = h.suits;
       so_far = λ undecided declared found. so_far_stays sc old new low high c.txn declared c.phase c.instances c.gathered l (h.so_far undecided declared found);
       above = λ undecided. above_stays low high c.instances c.gathered l.le (h.above undecided);
+      made_after = h.made_after;
       turn = h.turn;
     }
 
@@ -155,7 +157,18 @@ coordinator_up_stays sc old new low high (Some c) l h = coordinator_stays sc old
 
 cause_stays : (sc : Scenario) (old new : List Fact) (low high : ℕ) (txn : TxnId) (why : Cause) → Later old new low high → CauseFits sc old low txn why → CauseFits sc new high txn why
 cause_stays sc old new low high txn (cause.Denied denied) l h =
-    record { verdict = h.verdict; denied_is = h.denied_is; right = right_stays sc old new low high txn h.verdict l h.right; ruleless = h.ruleless }
+    record {
+      verdict = h.verdict;
+      denied_is = h.denied_is;
+      right = right_stays sc old new low high txn h.verdict l h.right;
+      ruleless = h.ruleless;
+      bound = λ declared found at_newest.
+          let past = (h.right declared found).past in
+          let same : newest sc h.verdict.admin h.verdict.place new ≡ newest sc h.verdict.admin h.verdict.place old =
+          ap (λ (earlier : List Fact). (opening_version sc h.verdict.admin).0 + count_by (is_publication h.verdict.admin) earlier) (l.grows.same h.verdict.place (omega (arith, past))) in
+          let bound = h.bound declared found at_newest in
+          omega (arith, same, bound);
+    }
 cause_stays sc old new low high txn (cause.Newer newer) l h = λ declared found. newer_stays sc old new low high newer declared l (h declared found)
 cause_stays sc old new low high txn (cause.Rounds mets) l h = λ declared found. rounds_stay sc txn old new low high mets declared l (h declared found)
 cause_stays sc old new low high txn _ l h = tt

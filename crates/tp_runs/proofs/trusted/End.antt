@@ -1,38 +1,35 @@
 -- Trust of the facts: where the invariant holds, every commit is trusted and every abort has its cause.
+use Rattle.std.proofs.Common.{Bool, IfSome, List, None, Option, Some, [], ap, false, is_none, is_some, nat_le, not, refl, slice_get, subst, true, ℕ, ◌||◌, ◌∙◌, ◌∷◌, ◌≡◌, ◌≤◌}
+use Rattle.std.proofs.lemmas.Bool.{and_from, and_parts, le-leb, lt-ltb}
 use Rattle.std.specs.List.{list_all}
 use Rattle.std.specs.Option.{option_map_or}
-use Rattle.std.proofs.Common.{Bool, IfSome, List, None, Option, Some, [], ap, arith, false, is_none, is_some, nat_le, not, refl, slice_get, subst, true, ℕ, ◌&&◌, ◌||◌, ◌∙◌, ◌∷◌, ◌≡◌}
-use Rattle.std.proofs.lemmas.Bool.{and_from, and_parts, le-leb, lt-ltb}
+use Rattle.tp_types.proofs.EachLemmas.{all_four, each_get, each_placed, missing}
 use Rattle.tp_types.proofs.ListLemmas.{three_from}
+use Rattle.tp_types.specs.Each.{Each}
 use Rattle.tp_model.specs.Authorisation.{is_allowed, is_certified, is_own_query, is_true_verdict, policy_at, question_of}
-use Rattle.tp_model.specs.Built.{is_built}
-use Rattle.tp_model.specs.Causes.{denies_at_newest, is_caused, is_denied, is_denied_version, is_explained_at, is_refused, is_shown, keeps_causes, keeps_causes_what}
+use Rattle.tp_model.specs.Causes.{is_bound_to_newest, is_caused, is_denied, is_denied_version, is_explained_at, is_refused, is_shown, keeps_causes, keeps_causes_what}
 use Rattle.tp_model.specs.Facts.{before}
-use Rattle.tp_model.specs.Levels.{is_global, level_of}
 use Rattle.tp_model.specs.Trust.{is_timely_reading, is_trusted, is_trusted_commit, is_trusted_instance, is_trusted_proof, is_within, keeps_trust, keeps_trust_what}
 use Rattle.tp_model.specs.Versions.{newest}
+use Rattle.tp_model.specs.Words.{Cause, CommitRecord, Denied, Fact, Instance, OutOfRange, Scenario, Transaction, TxnId, Verdict, What}
 use Rattle.tp_model.specs.Words.cause
 use Rattle.tp_model.specs.Words.decision
 use Rattle.tp_model.specs.Words.what
-use Rattle.tp_model.specs.Words.{AdminId, Cause, CommitRecord, Denied, Fact, Instance, OutOfRange, Scenario, Transaction, TxnId, Verdict, What}
-use Rattle.tp_runs.proofs.trust.Instances.{IsTimelyReading, IsTrustedInstance}
+use Rattle.tp_coord.specs.Row as row
+use Rattle.tp_machine.specs.Machine.{State}
+use Rattle.tp_machine.specs.Named.{IsTxn}
 use Rattle.tp_runs.proofs.basics.Facts.{all_from_each}
-use Rattle.tp_types.proofs.EachLemmas.{all_four, each_get, each_placed, missing}
 use Rattle.tp_runs.proofs.deaths.Fit.{FactDies, WhatDies}
 use Rattle.tp_runs.proofs.deaths.World.{Deaths}
 use Rattle.tp_runs.proofs.refusals.Running.{own_server_of}
 use Rattle.tp_runs.proofs.refusals.World.{FactRefused, IsRefused, Refusals, WhatRefused}
 use Rattle.tp_runs.proofs.restarts.World.{FactSince, Restarts, ToldSince}
-use Rattle.tp_runs.proofs.trust.Built.{ArePlain, are_plain}
 use Rattle.tp_runs.proofs.trust.Coordinator.{CauseFits, CommitFits}
 use Rattle.tp_runs.proofs.trust.Fit.{IsRight, Right, has_rule}
+use Rattle.tp_runs.proofs.trust.Instances.{IsTimelyReading, IsTrustedInstance}
 use Rattle.tp_runs.proofs.trust.Server.{policy_there}
 use Rattle.tp_runs.proofs.trust.World.{FactFits, Trusts, WhatFits}
-use Rattle.tp_machine.specs.Machine.{State}
-use Rattle.tp_types.specs.Each.{Each}
 use Rattle.tp_runs.specs.Sound.{IsSound, IsSoundCause, IsSoundFact, IsSoundWhat, IsVersion}
-use Rattle.tp_machine.specs.Named.{IsTxn}
-use Rattle.tp_coord.specs.Row as row
 
 -- ---- a proof
 
@@ -87,25 +84,28 @@ what_trusted sc facts place _ sound h = refl
 
 -- ---- an abort
 
-unbound : (global newest fresh : Bool) → global ≡ false → (not (global && newest) || fresh) ≡ true
-unbound global newest fresh e = grind arith
+-- where a denial is bound to the newest version it has it
+bound_by : (bound fresh : Bool) → (bound ≡ true → fresh ≡ true) → (not bound || fresh) ≡ true
+bound_by true fresh h = h refl
+bound_by false fresh h = refl
 
 no_rule : (rule : Option ℕ) → is_none rule ≡ true → is_some rule ≡ false
 no_rule None e = refl
 no_rule (Some rule) e = absurd (cc)
 
--- a right verdict without a rule, of a version that exists, shows a denial
-denial_shown : (sc : Scenario) (txn : TxnId) (declared : Transaction) (place : ℕ) (facts : List Fact) (verdict : Verdict) → is_global (level_of declared verdict.admin) ≡ false
+-- a right verdict without a rule, of a version that exists, shows a denial; where the newest version is asked for it was the newest, or later
+denial_shown : (sc : Scenario) (txn : TxnId) (declared : Transaction) (place : ℕ) (facts : List Fact) (verdict : Verdict) → (is_bound_to_newest declared (row.denied_by verdict) ≡ true → newest sc verdict.admin verdict.place facts ≤ verdict.version.0)
     → IsVersion sc verdict.admin verdict.version → IsRight sc facts place txn declared verdict → is_none verdict.rule ≡ true
     → is_denied sc txn place facts (row.denied_by verdict) declared ≡ true
-denial_shown sc txn declared place facts verdict view version h ruleless =
+denial_shown sc txn declared place facts verdict bound version h ruleless =
     all_four (is_own_query sc declared verdict.query verdict.server verdict.admin) (is_within txn place facts verdict.place) (is_denied_version sc place facts declared (row.denied_by verdict))
     (is_allowed sc facts declared (question_of verdict))
     h.own
     (and_from _ _ h.begun (lt-ltb verdict.place place h.past))
     (three_from (is_some (policy_at sc verdict.admin verdict.version)) (nat_le verdict.version.0 (newest sc verdict.admin place facts)) _
     (policy_there sc verdict.admin verdict.version version) (le-leb verdict.version.0 (newest sc verdict.admin place facts) h.published)
-    (unbound (is_global (level_of declared verdict.admin)) (denies_at_newest declared.scheme) (nat_le (newest sc verdict.admin verdict.place facts) verdict.version.0) view))
+    (bound_by (is_bound_to_newest declared (row.denied_by verdict)) (nat_le (newest sc verdict.admin verdict.place facts) verdict.version.0)
+    (λ at_newest. le-leb (newest sc verdict.admin verdict.place facts) verdict.version.0 (bound at_newest))))
     (h.fits ∙ no_rule verdict.rule ruleless)
 
 -- a refusal that facts show
@@ -114,28 +114,27 @@ is_refused_shown sc txn place facts refused declared h =
     and_from _ _ (and_from _ _ h.write h.aborted)
     (ap (λ (first : Option ℕ). option_map_or (is_explained_at sc txn facts refused declared) first false) h.first_is ∙ h.run)
 
-cause_shown : (sc : Scenario) (facts : List Fact) (place : ℕ) (txn : TxnId) (why : Cause) (declared : Transaction) → ArePlain sc → slice_get sc.txns txn.0 ≡ Some declared → IsSoundCause sc txn why
+cause_shown : (sc : Scenario) (facts : List Fact) (place : ℕ) (txn : TxnId) (why : Cause) (declared : Transaction) → slice_get sc.txns txn.0 ≡ Some declared → IsSoundCause sc txn why
     → WhatRefused sc facts place (what.Decided txn (decision.Abort why)) → WhatDies sc facts place (what.Decided txn (decision.Abort why))
     → ToldSince sc facts place (what.Decided txn (decision.Abort why)) → CauseFits sc facts place txn why → is_shown sc txn place facts why declared ≡ true
-cause_shown sc facts place txn (cause.Denied denied) declared form e sound r d s h =
+cause_shown sc facts place txn (cause.Denied denied) declared e sound r d s h =
     let version : IsVersion sc h.verdict.admin h.verdict.version = subst (λ (d : Denied). IsVersion sc d.admin d.version) h.denied_is sound.version in
-    let view = each_get (λ (t : Transaction). (admin : AdminId) → is_global (level_of t admin) ≡ false) sc.txns txn.0 declared form.levels e in
     ap (λ (d : Denied). is_denied sc txn place facts d declared) h.denied_is
-    ∙ denial_shown sc txn declared place facts h.verdict (view h.verdict.admin) version (h.right declared e) h.ruleless
-cause_shown sc facts place txn (cause.No refused) declared form e sound r d s h = is_refused_shown sc txn place facts refused declared (r declared e)
-cause_shown sc facts place txn (cause.Died died) declared form e sound r d s h = d declared e
-cause_shown sc facts place txn (cause.Newer newer) declared form e sound r d s h = h declared e
-cause_shown sc facts place txn (cause.Rounds mets) declared form e sound r d s h = h declared e
-cause_shown sc facts place txn (cause.Restarted at) declared form e sound r d s h = and_from _ _ (own_server_of sc at txn declared e sound s.item) s.crashed
-cause_shown sc facts place txn cause.Halted declared form e sound r d s h = s
+    ∙ denial_shown sc txn declared place facts h.verdict (subst (λ (d : Denied). is_bound_to_newest declared d ≡ true → newest sc h.verdict.admin h.verdict.place facts ≤ h.verdict.version.0) h.denied_is (h.bound declared e)) version (h.right declared e) h.ruleless
+cause_shown sc facts place txn (cause.No refused) declared e sound r d s h = is_refused_shown sc txn place facts refused declared (r declared e)
+cause_shown sc facts place txn (cause.Died died) declared e sound r d s h = d declared e
+cause_shown sc facts place txn (cause.Newer newer) declared e sound r d s h = h declared e
+cause_shown sc facts place txn (cause.Rounds mets) declared e sound r d s h = h declared e
+cause_shown sc facts place txn (cause.Restarted at) declared e sound r d s h = and_from _ _ (own_server_of sc at txn declared e sound s.item) s.crashed
+cause_shown sc facts place txn cause.Halted declared e sound r d s h = s
 
-what_caused : (sc : Scenario) (facts : List Fact) (place : ℕ) (w : What) → ArePlain sc → IsSoundWhat sc w → WhatRefused sc facts place w → WhatDies sc facts place w → ToldSince sc facts place w → WhatFits sc facts place w
+what_caused : (sc : Scenario) (facts : List Fact) (place : ℕ) (w : What) → IsSoundWhat sc w → WhatRefused sc facts place w → WhatDies sc facts place w → ToldSince sc facts place w → WhatFits sc facts place w
     → keeps_causes_what sc facts place w ≡ true
-what_caused sc facts place (what.Decided txn (decision.Commit committed)) form sound r d s h = refl
-what_caused sc facts place (what.Decided txn (decision.Abort why)) form sound r d s h =
+what_caused sc facts place (what.Decided txn (decision.Commit committed)) sound r d s h = refl
+what_caused sc facts place (what.Decided txn (decision.Abort why)) sound r d s h =
     let found = exists_txn sc txn (slice_get sc.txns txn.0) refl sound.0 in
-    ap (λ (d : Option Transaction). option_map_or (is_shown sc txn place facts why) d false) found.1 ∙ cause_shown sc facts place txn why found.0 form found.1 sound.1 r d s h
-what_caused sc facts place _ form sound r d s h = refl
+    ap (λ (d : Option Transaction). option_map_or (is_shown sc txn place facts why) d false) found.1 ∙ cause_shown sc facts place txn why found.0 found.1 sound.1 r d s h
+what_caused sc facts place _ sound r d s h = refl
 
 -- the commits of a world are trusted
 pub facts_trusted : (sc : Scenario) (w : State) → IsSound sc w → Trusts sc w → is_trusted sc w.facts ≡ true
@@ -145,9 +144,8 @@ facts_trusted sc w sound h =
     (λ n fact e. what_trusted sc w.facts fact.place fact.what (each_get (IsSoundFact sc) w.facts n fact sound.facts_are e) (each_get (FactFits sc w.facts) w.facts n fact h.facts_fit e)))
 
 -- and its aborts have causes
-pub facts_caused : (sc : Scenario) (w : State) → is_built sc ≡ true → IsSound sc w → Refusals sc w → Deaths sc w → Restarts sc w → Trusts sc w → is_caused sc w.facts ≡ true
-facts_caused sc w built sound r d s h =
-    let form : ArePlain sc = are_plain sc built in
+pub facts_caused : (sc : Scenario) (w : State) → IsSound sc w → Refusals sc w → Deaths sc w → Restarts sc w → Trusts sc w → is_caused sc w.facts ≡ true
+facts_caused sc w sound r d s h =
     all_from_each (λ (fact : Fact). keeps_causes sc w.facts fact ≡ true) (keeps_causes sc w.facts) (λ fact k. k) w.facts
     (each_placed (λ (fact : Fact). keeps_causes sc w.facts fact ≡ true) w.facts
-    (λ n fact e. what_caused sc w.facts fact.place fact.what form (each_get (IsSoundFact sc) w.facts n fact sound.facts_are e) (each_get (FactRefused sc w.facts) w.facts n fact r.facts e) (each_get (FactDies sc w.facts) w.facts n fact d.facts e) (each_get (FactSince sc w.facts) w.facts n fact s.facts e) (each_get (FactFits sc w.facts) w.facts n fact h.facts_fit e)))
+    (λ n fact e. what_caused sc w.facts fact.place fact.what (each_get (IsSoundFact sc) w.facts n fact sound.facts_are e) (each_get (FactRefused sc w.facts) w.facts n fact r.facts e) (each_get (FactDies sc w.facts) w.facts n fact d.facts e) (each_get (FactSince sc w.facts) w.facts n fact s.facts e) (each_get (FactFits sc w.facts) w.facts n fact h.facts_fit e)))

@@ -29,8 +29,9 @@ use Rattle.tp_runs.proofs.pairs.Pair.{Pair}
 use Rattle.tp_runs.proofs.pairs.Votes.{has_deeds}
 use Rattle.tp_runs.proofs.known.World.{Pairs, declared_by, pair_of_up}
 use Rattle.tp_runs.proofs.trust.Acts.{ActTrusts, ForcesPublished, act_trusts, coordinator_acts_trusts, own_timely, server_acts_trusts, tells_fit, tells_timely, timely_closed, unmoved_trusts}
-use Rattle.tp_runs.proofs.trust.Built.{ArePlain, are_plain, known_at_first}
-use Rattle.tp_runs.proofs.trust.Coordinator.{CoordinatorFits, CoordinatorTrusts, LetterOfTurn, PresentMail, RecordDecides, RowTrusts, coordinator_row_trusts, repeats_fit, repeats_timely, submit_row_trusts}
+use Rattle.tp_runs.proofs.trust.Built.{AreBuilt, are_built, known_at_first}
+use Rattle.tp_runs.proofs.trust.Coordinator.{CoordinatorFits, CoordinatorTrusts, LetterOfTurn, PresentMail, RecordDecides, RowTrusts}
+use Rattle.tp_runs.proofs.trust.CoordinatorRows.{coordinator_row_trusts, repeats_fit, repeats_timely, submit_row_trusts}
 use Rattle.tp_runs.proofs.trust.Fit.{BodyFits, IsSubmitted, Later, MailFits, ServerFits, maybe_stays}
 use Rattle.tp_runs.proofs.trust.Kept.{AreKept, IsKept, IsTrusted}
 use Rattle.tp_runs.proofs.trust.Offices.{newest_fits, newest_timely, none_revoked, opening_fits, published_trusts, pushed_fits, revoked_trusts, ticked_trusts}
@@ -157,23 +158,26 @@ present_mail coordinators c txn part sc sent said own found up h =
     subst (λ (u : Option Coordinator). IfSome u (TurnFits sc sent stamped.turn said)) there k) h
 
 -- what the coordinator's row leaves fits
-pub received_row_trusts : (sc : Scenario) (w : State) → AreFew sc → ArePlain sc → HaveHomes sc → IsValid sc → IsSound sc w → Agrees sc w → Pairs sc w → Trusts sc w → (n : ℕ) (mail : Mail) (txn : TxnId) (part : Part Coordinator) (c : Coordinator)
+pub received_row_trusts : (sc : Scenario) (w : State) → AreFew sc → AreBuilt sc → HaveHomes sc → IsValid sc → IsSound sc w → Agrees sc w → Pairs sc w → Trusts sc w → (n : ℕ) (mail : Mail) (txn : TxnId) (part : Part Coordinator) (c : Coordinator)
     → WasSent w n mail (actor.Coordinator txn) → IsCoordinatorUp w txn part c → RowTrusts sc w.facts (length w.steps) c (coordinator_row sc c mail)
-received_row_trusts sc w few plain homes valid sound a pairs h n mail txn part c sent up =
+received_row_trusts sc w few built homes valid sound a pairs h n mail txn part c sent up =
     let m = mail_trusted sc w n mail (actor.Coordinator txn) sound h sent in
     let same : c.txn ≡ txn = own_txn sc w txn part c sound up.found up.up in
     let agrees : CoordinatorAgrees sc c part.log =
     (subst (λ (u : Option Coordinator). IfSome u (CoordinatorUpAgrees sc w.actors.servers txn part.log)) up.up (a.coordinators txn.0 part up.found).state).agrees in
     let paired : BodyPairs sc (pair_at w.actors) mail.letter.from (actor.Coordinator txn) mail.letter.body =
     subst (λ (to : Actor). BodyPairs sc (pair_at w.actors) mail.letter.from to mail.letter.body) sent.goes_to (each_get (λ (m : Mail). LetterPairs sc (pair_at w.actors) m.letter) w.mails n mail pairs.mails sent.sent) in
-    coordinator_row_trusts sc w.facts (length w.steps) (pair_at w.actors) c mail few plain homes valid agrees.servers (coordinator_fits sc w txn part c h up)
-    (subst (λ (t : TxnId). IsSoundBody sc (actor.Coordinator t) mail.letter.body) (sym same) m.says) m.fits
+    coordinator_row_trusts sc w.facts (length w.steps) (pair_at w.actors) c mail few built homes valid agrees.servers (coordinator_fits sc w txn part c h up)
+    (record {
+      sound = subst (λ (t : TxnId). IsSoundBody sc (actor.Coordinator t) mail.letter.body) (sym same) m.says;
+      fits = m.fits;
+      present = present_mail w.actors.coordinators c txn part sc mail.sent mail.letter.body same up.found up.up m.timely;
+    })
     (subst (λ (t : TxnId). BodyPairs sc (pair_at w.actors) mail.letter.from (actor.Coordinator t) mail.letter.body) (sym same) paired)
-    (present_mail w.actors.coordinators c txn part sc mail.sent mail.letter.body same up.found up.up m.timely)
 
-receipt_by_coordinator_in_trusted : (sc : Scenario) (w : State) → AreFew sc → ArePlain sc → HaveHomes sc → IsValid sc → IsSound sc w → Agrees sc w → Pairs sc w → Trusts sc w → (n : ℕ) (mail : Mail) (txn : TxnId) (part : Part Coordinator) (c : Coordinator)
+receipt_by_coordinator_in_trusted : (sc : Scenario) (w : State) → AreFew sc → AreBuilt sc → HaveHomes sc → IsValid sc → IsSound sc w → Agrees sc w → Pairs sc w → Trusts sc w → (n : ℕ) (mail : Mail) (txn : TxnId) (part : Part Coordinator) (c : Coordinator)
     → WasSent w n mail (actor.Coordinator txn) → IsCoordinatorUp w txn part c → MoveTrusts sc w (coordinator_move w.actors txn (acts_by coordinator_fact [] part.log (coordinator_row sc c mail)))
-receipt_by_coordinator_in_trusted sc w few plain homes valid sound a pairs h n mail txn part c sent up =
+receipt_by_coordinator_in_trusted sc w few built homes valid sound a pairs h n mail txn part c sent up =
     let effect = coordinator_row sc c mail in
     let append = effect.reaction.append in
     let letters = effect.reaction.letters in
@@ -182,7 +186,7 @@ receipt_by_coordinator_in_trusted sc w few plain homes valid sound a pairs h n m
     (act_trusts sc w txn part.up (Some effect.state) [] append letters (record { still = tt; fit = λ facts. tt })
     (subst (λ (was : Option Coordinator). CoordinatorTrusts sc w.facts (length w.steps) txn was (Some effect.state) append letters) (sym up.up)
     (subst (λ (t : TxnId). CoordinatorTrusts sc w.facts (length w.steps) t (Some c) (Some effect.state) append letters) same
-    (received_row_trusts sc w few plain homes valid sound a pairs h n mail txn part c sent up))))
+    (received_row_trusts sc w few built homes valid sound a pairs h n mail txn part c sent up))))
 
 -- ---- submissions
 
@@ -193,16 +197,16 @@ now_submitted w txn more =
 
 -- a submission decides nothing
 begins_nothing : (sc : Scenario) (w : State) (c : Coordinator) → IfSome (submit_row sc c).reaction.append (RecordDecides sc w.facts (length w.steps))
-begins_nothing sc w c = submit_by sc c (λ (effect : Effect Coordinator). IfSome effect.reaction.append (RecordDecides sc w.facts (length w.steps))) (record { ignored = tt; sent = λ server home. tt })
+begins_nothing sc w c = submit_by sc c (λ (effect : Effect Coordinator). IfSome effect.reaction.append (RecordDecides sc w.facts (length w.steps))) (record { ignored = tt; sent = λ server moves home. tt; asked = λ moves. tt })
 
-submission_fits : (sc : Scenario) (w : State) (txn : TxnId) (c : Coordinator) → ArePlain sc → c.txn ≡ txn → CoordinatorFits sc w.facts (length w.steps) c → is_begun c.phase ≡ false
+submission_fits : (sc : Scenario) (w : State) (txn : TxnId) (c : Coordinator) → AreBuilt sc → c.txn ≡ txn → CoordinatorFits sc w.facts (length w.steps) c → is_begun c.phase ≡ false
     → ActTrusts sc w txn (Some c) (Some (with_age (submit_row sc c) (length w.steps)).state) (what.Submitted txn ∷ []) (submit_row sc c).reaction.append (submit_row sc c).reaction.letters
-submission_fits sc w txn c plain same fits begun =
+submission_fits sc w txn c built same fits begun =
     let place = length w.steps in
     let effect = with_age (submit_row sc c) place in
     let after = facts_after w (what.Submitted txn ∷ coordinator_facts effect.reaction.append) in
     let row : (facts : List Fact) → facts ≡ after → CoordinatorTrusts sc facts (place + 1) c.txn (Some c) (Some effect.state) effect.reaction.append effect.reaction.letters =
-    λ facts e. submit_row_trusts sc facts (place + 1) place c plain
+    λ facts e. submit_row_trusts sc facts (place + 1) place c built
     (coordinator_stays sc w.facts facts place (place + 1) c (subst (λ (fs : List Fact). Later w.facts fs place (place + 1)) (sym e) (later_with_facts w (what.Submitted txn ∷ coordinator_facts effect.reaction.append) (place + 1) (omega arith))) fits)
     begun
     (subst (λ (fs : List Fact). IsSubmitted fs c.txn) (sym e) (subst (λ (t : TxnId). IsSubmitted after t) (sym same) (now_submitted w txn (coordinator_facts effect.reaction.append)))) in
@@ -215,29 +219,29 @@ submission_fits sc w txn c plain same fits begun =
       old = (row after refl).old;
     }
 
-begun_trusts : (sc : Scenario) (w : State) → ArePlain sc → IsSound sc w → ArePast (length w.steps) w.facts → Trusts sc w → (txn : TxnId) (part : Part Coordinator) (c : Coordinator) → IsCoordinatorUp w txn part c
+begun_trusts : (sc : Scenario) (w : State) → AreBuilt sc → IsSound sc w → ArePast (length w.steps) w.facts → Trusts sc w → (txn : TxnId) (part : Part Coordinator) (c : Coordinator) → IsCoordinatorUp w txn part c
     → is_part_submitted (Some c) ≡ false
     → MoveTrusts sc w (coordinator_move w.actors txn (acts_by coordinator_fact (what.Submitted txn ∷ []) part.log (with_age (submit_row sc c) (length w.steps))))
-begun_trusts sc w plain sound past h txn part c up new =
+begun_trusts sc w built sound past h txn part c up new =
     let effect = with_age (submit_row sc c) (length w.steps) in
     let own = what.Submitted txn ∷ [] in
     coordinator_acts_trusts sc w txn part own (Some effect.state) effect.reaction.append effect.reaction.letters past h up.found
     (subst (λ (was : Option Coordinator). ActTrusts sc w txn was (Some effect.state) own effect.reaction.append effect.reaction.letters) (sym up.up)
-    (submission_fits sc w txn c plain (own_txn sc w txn part c sound up.found up.up) (coordinator_fits sc w txn part c h up) new))
+    (submission_fits sc w txn c built (own_txn sc w txn part c sound up.found up.up) (coordinator_fits sc w txn part c h up) new))
 
 -- ---- timers
 
 -- what is sent again fits, and is of the present turn
-timed_trusts : (sc : Scenario) (w : State) → ArePlain sc → IsSound sc w → ArePast (length w.steps) w.facts → Trusts sc w → (txn : TxnId) (part : Part Coordinator) (c : Coordinator) → IsCoordinatorUp w txn part c
+timed_trusts : (sc : Scenario) (w : State) → AreBuilt sc → IsSound sc w → ArePast (length w.steps) w.facts → Trusts sc w → (txn : TxnId) (part : Part Coordinator) (c : Coordinator) → IsCoordinatorUp w txn part c
     → MoveTrusts sc w (record { actors = w.actors; happened = []; letters = repeats sc c c.phase })
-timed_trusts sc w plain sound past h txn part c up =
+timed_trusts sc w built sound past h txn part c up =
     let place = length w.steps in
     let same : c.txn ≡ txn = own_txn sc w txn part c sound up.found up.up in
     let fits = coordinator_fits sc w txn part c h up in
     let later = coordinator_stays sc w.facts (facts_after w []) place (place + 1) c (later_with_facts w [] (place + 1) (omega arith)) fits in
     unmoved_trusts sc w [] (repeats sc c c.phase) past h (record { still = tt; fit = λ facts. tt }) (repeats_fit sc (facts_after w []) (place + 1) place c later)
     (own_timely sc w.actors.coordinators txn part c place (repeats sc c c.phase) up.found up.up
-    (subst (λ (t : TxnId). Each (LetterOfTurn sc t (Some c) place) (repeats sc c c.phase)) same (repeats_timely sc w.facts place place c plain fits)))
+    (subst (λ (t : TxnId). Each (LetterOfTurn sc t (Some c) place) (repeats sc c c.phase)) same (repeats_timely sc w.facts place place c built fits)))
 
 -- ---- steps
 
@@ -246,7 +250,7 @@ trusts_cases sc w built valid few rightly sound a pairs h =
     record {
       idle = idle_trusts sc w a.past h;
       server_received = λ n mail at part s sent up. receipt_by_server_in_trusted sc w valid rightly sound a.past pairs h n mail at part s sent up;
-      coordinator_received = λ n mail txn part c sent up. receipt_by_coordinator_in_trusted sc w few (are_plain sc built) (have_homes sc valid) valid sound a pairs h n mail txn part c sent up;
+      coordinator_received = λ n mail txn part c sent up. receipt_by_coordinator_in_trusted sc w few (are_built sc built) (have_homes sc valid) valid sound a pairs h n mail txn part c sent up;
       authority_told = λ n mail sent.
           let m = mail_trusted sc w n mail actor.Authority sound h sent in
           unmoved_trusts sc w [] (office.authority_row w.actors.authority mail).reaction.letters a.past h (record { still = tt; fit = λ facts. tt })
@@ -259,8 +263,8 @@ trusts_cases sc w built valid few rightly sound a pairs h =
           unmoved_trusts sc w [] (master.pushes w.actors.master admin server).reaction.letters a.past h (record { still = tt; fit = λ facts. tt }) (pushed_fits sc w admin server exists h) (tt, tt);
       ticked = λ by. ticked_trusts sc w by a.past h;
       revoked = λ cred exists. revoked_trusts sc w cred exists a.past h;
-      begun = λ txn part c exists up new. begun_trusts sc w (are_plain sc built) sound a.past h txn part c up new;
-      timed = λ txn part c exists up begun. timed_trusts sc w (are_plain sc built) sound a.past h txn part c up;
+      begun = λ txn part c exists up new. begun_trusts sc w (are_built sc built) sound a.past h txn part c up new;
+      timed = λ txn part c exists up begun. timed_trusts sc w (are_built sc built) sound a.past h txn part c up;
     }
 
 -- a step that is not refused keeps what trust rests on
@@ -297,7 +301,15 @@ trusts_opening sc built =
             told = λ admin exists. let low = known_at_first sc k admin built exists in omega (arith, low);
           });
       coordinators = λ n part e. at_made (λ (k : ℕ) (found : Part Coordinator). CoordinatorPartFits sc [] 0 found) (λ (k : ℕ). opened_part (coord.idle sc (record { 0 = k }))) 0 (length sc.txns)
-          (λ k within. record { awaits = tt; so_far = λ unsure declared found. so_far_idle sc [] 0 (record { 0 = k }) declared; above = λ unsure. record { closed = tt; gathered_before = tt }; turn = omega arith }) n part e;
+          (λ k within.
+          record {
+            awaits = tt;
+            suits = λ declared found. tt;
+            so_far = λ unsure declared found. so_far_idle sc [] 0 (record { 0 = k }) declared;
+            above = λ unsure. record { closed = tt; gathered_before = tt };
+            made_after = tt;
+            turn = omega arith;
+          }) n part e;
       mails_fit = tt;
       mails_timely = tt;
       facts_fit = tt;
