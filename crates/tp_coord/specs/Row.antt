@@ -2,10 +2,10 @@
 -- only in the phase that awaits it, with the present turn, and once from each server; otherwise nothing happens.
 use Rattle.std.specs.List.{find, list_any}
 use Rattle.std.specs.Option.{option_flatten, option_map_or}
-use Rattle.std.specs.Prelude.{Bool, List, None, Option, Some, [], false, filter, if◌then◌else◌, map, not, length, min, option_and_then, option_map, replicate, slice_get, slice_set, true, unwrap_or, ℕ, ℤ, ◌&&◌, ◌++◌, ◌==◌, ◌∷◌}
-use Rattle.tp_types.specs.Effect.{Effect, ignores, logs, sends, unbuilt}
+use Rattle.std.specs.Prelude.{Bool, List, None, Option, Some, [], false, filter, if◌then◌else◌, is_some, map, not, length, min, option_and_then, option_map, replicate, slice_get, slice_set, take, true, unwrap_or, ℕ, ℤ, ◌&&◌, ◌++◌, ◌==◌, ◌∷◌}
+use Rattle.tp_types.specs.Effect.{Effect, ignores, logs, sends}
 use Rattle.tp_types.specs.declared.records.Outcome.TheVariants.{Abort, Commit}
-use Rattle.tp_model.specs.Queries.{item_of, query_at}
+use Rattle.tp_model.specs.Queries.{is_at_server, item_of, query_at}
 use Rattle.tp_model.specs.Ids.{same_server}
 use Rattle.tp_model.specs.Words.actor
 use Rattle.tp_model.specs.Words.answer
@@ -15,8 +15,9 @@ use Rattle.tp_model.specs.Words.decision
 use Rattle.tp_model.specs.Words.level
 use Rattle.tp_model.specs.Words.log
 use Rattle.tp_model.specs.Words.no
+use Rattle.tp_model.specs.Words.scheme
 use Rattle.tp_model.specs.Words.vote
-use Rattle.tp_model.specs.Words.{Actor, AdminId, Answer, Body, Cause, CommitRecord, Decision, Denied, Died, DoneReply, Instance, Item, ItemId, Letter, Level, Mail, NewestReply, No, OutOfRange, Outcome, PrepareRequest, Query, QueryRequest, Reading, Scenario, ServerId, Staple, TellReply, Transaction, TxnId, Verdict, Version, Vote, VoteReply}
+use Rattle.tp_model.specs.Words.{Actor, AdminId, Answer, Body, Cause, CommitRecord, Decision, Denied, Died, DoneReply, Instance, Item, ItemId, Letter, Level, Mail, NewestReply, No, OutOfRange, Outcome, PrepareRequest, Query, QueryRequest, Reading, Scenario, Scheme, ServerId, Staple, TellReply, Transaction, TxnId, ValidateRequest, Verdict, VerdictsReply, Version, Vote, VoteReply}
 use Rattle.tp_model.specs.Levels.{is_global, reads_master}
 use Rattle.tp_model.specs.Limits.{admins_limit, count_limit, next_count, view_rounds}
 use Rattle.tp_model.specs.Deeds.{deed_of}
@@ -26,6 +27,7 @@ use Rattle.tp_coord.specs.declared.coordinator.Phase.TheVariants as phase
 use Rattle.tp_coord.specs.declared.coordinator.Phase.{Phase}
 use Rattle.tp_coord.specs.declared.coordinator.Span.TheVariants as span
 use Rattle.tp_coord.specs.declared.coordinator.Span.{Span}
+use Rattle.tp_scheme.specs.Gathered.{older, pin_of}
 use Rattle.tp_scheme.specs.Moves.{next_move}
 use Rattle.tp_scheme.specs.declared.moves.Move.TheVariants as move
 use Rattle.tp_scheme.specs.declared.moves.Point.TheVariants as point
@@ -85,14 +87,28 @@ move_at sc c at = option_map_or (move_of sc at) (slice_get sc.txns c.txn.0) move
 abbrev pub next_number : ℕ → ℕ
 next_number number = next_count number
 
+-- the number of the query that a point is of; a point after the votes is of none
+abbrev pub number_at : Point → ℕ
+number_at (point.Begun number) = number
+number_at (point.Stapled number) = number
+number_at (point.Ran number) = number
+number_at (point.Read number) = number
+number_at (point.Validated number) = number
+number_at point.Voted = 0
+number_at point.VoteRead = 0
+
+-- the number of the query after it
+abbrev pub next_at : Point → ℕ
+next_at at = next_number (number_at at)
+
 -- where the transaction goes on after a query, the next one begins
 abbrev pub followed : Scenario → Coordinator → ℕ → Move → Move
 followed sc c number move.Following = move_at sc c (point.Begun (next_number number))
 followed sc c number next = next
 
--- what is done after a query that ran
-abbrev pub move_after : Scenario → Coordinator → ℕ → Move
-move_after sc c number = followed sc c number (move_at sc c (point.Ran number))
+-- what is done at a point that the transaction has passed
+abbrev pub move_after : Scenario → Coordinator → Point → Move
+move_after sc c at = followed sc c (number_at at) (move_at sc c at)
 
 -- ---- decisions
 
@@ -112,6 +128,13 @@ decides c outcome decided =
 abbrev pub aborts : Coordinator → Cause → Effect Coordinator
 aborts c why = decides c Abort (decision.Abort why)
 
+abbrev pub commit_record : Coordinator → ℕ → CommitRecord
+commit_record c rounds = record { rounds = rounds; instances = c.instances; deeds = c.deeds }
+
+-- the transaction commits, after so many rounds, on the instances that it has closed
+abbrev pub commits : Coordinator → ℕ → Effect Coordinator
+commits c rounds = decides c Commit (decision.Commit (commit_record c rounds))
+
 -- ---- queries
 
 -- the epoch that a server has told the transaction, if it has told one
@@ -124,9 +147,19 @@ value_of sc c number =
     option_and_then (λ (txn : Transaction). asked_value txn c.deeds number)
     (slice_get sc.txns c.txn.0)
 
--- the request of a turn for a query, with the value that it is asked with, and the staple if it is proved as it runs
-abbrev pub query_with : Coordinator → ℕ → ServerId → ℕ → Option ℤ → Option Staple → QueryRequest
-query_with c turn server number value staple = record {
+-- the administrator of a query's item
+abbrev pub admin_of : Scenario → Query → Option AdminId
+admin_of sc query = option_map (λ (i : Item). i.admin) (slice_get sc.items (item_of query).0)
+
+-- the version that a query is to be proved by, if a gathered proof of its administrator has pinned one
+abbrev pub pin_for : Scenario → Coordinator → ℕ → Option Version
+pin_for sc c number =
+    option_and_then (pin_of c.gathered) (option_and_then (admin_of sc) (own_query sc c number))
+
+-- the request of a turn for a query, with the value that it is asked with, and the staple and the pin if it is proved as it runs
+abbrev pub query_with : Coordinator → ℕ → ServerId → ℕ → Option ℤ → Option Staple → Option Version
+    → QueryRequest
+query_with c turn server number value staple pin = record {
   txn = c.txn;
   turn = turn;
   query = number;
@@ -134,11 +167,12 @@ query_with c turn server number value staple = record {
   epoch = epoch_told c server;
   value = value;
   staple = staple;
-  pin = None;
+  pin = pin;
 }
 
 abbrev pub query_request : Scenario → Coordinator → ℕ → ServerId → ℕ → Option Staple → QueryRequest
-query_request sc c turn server number staple = query_with c turn server number (value_of sc c number) staple
+query_request sc c turn server number staple =
+    query_with c turn server number (value_of sc c number) staple (pin_for sc c number)
 
 -- a query is sent to the server of its item
 abbrev pub sends_query : Scenario → Coordinator → ℕ → Option Staple → ServerId → Effect Coordinator
@@ -149,6 +183,14 @@ sends_query sc c number staple server =
 -- the server of the transaction's query of this number
 abbrev pub home_of : Scenario → Coordinator → ℕ → Option ServerId
 home_of sc c number = option_and_then (server_of sc) (own_query sc c number)
+
+-- a query is sent where it has a server
+abbrev pub sends_next : Scenario → Coordinator → ℕ → Option Staple → Option ServerId
+    → Effect Coordinator
+sends_next sc c number staple None = ignores c
+sends_next sc c number staple (Some server) = sends_query sc c number staple server
+
+-- ---- the authority and the master
 
 -- the request of a turn to the authority
 abbrev pub ask_letter : Coordinator → ℕ → Letter
@@ -163,33 +205,25 @@ abbrev pub asks_in : Coordinator → Phase → Effect Coordinator
 asks_in c awaiting =
     sends (record c { turn = next_turn c; phase = awaiting }) (ask_letter c (next_turn c) ∷ [])
 
--- ---- Submit
+-- the request of a turn to the master
+abbrev pub probe_letter : Coordinator → ℕ → Letter
+probe_letter c turn = record {
+  from = actor.Coordinator c.txn;
+  to = actor.Master;
+  body = body.Probe (record { txn = c.txn; turn = turn });
+}
 
--- a query is sent where it has a server; c is what the coordinator was, and now what it is by then
-abbrev pub sends_next : Scenario → Coordinator → Coordinator → ℕ → Option Staple → Option ServerId
-    → Effect Coordinator
-sends_next sc c now number staple None = ignores c
-sends_next sc c now number staple (Some server) = sends_query sc now number staple server
+-- the master is asked for the newest versions
+abbrev pub probes : Coordinator → Phase → Effect Coordinator
+probes c awaiting =
+    sends (record c { turn = next_turn c; phase = awaiting }) (probe_letter c (next_turn c) ∷ [])
 
--- the first query is sent, or the authority is asked before it, and the place where that is sent is the age
-abbrev pub begins : Scenario → Coordinator → Move → Effect Coordinator
-begins sc c move.SendQuery = sends_next sc c c 1 None (home_of sc c 1)
-begins sc c move.Ask = asks_in c (phase.Stapling 1)
-begins sc c _ = ignores c
+-- what awaits its answer: after a query, or after the votes
+abbrev pub probing_at : Point → Phase
+probing_at point.Voted = phase.VoteProbing
+probing_at at = phase.Probing (number_at at)
 
--- what the submission of the transaction does
-abbrev pub submit_row : Scenario → Coordinator → Effect Coordinator
-submit_row sc c = begins sc c (move_at sc c (point.Begun 1))
-
--- a coordinator that knows the place of its submission
-abbrev pub coordinator_with_age : Coordinator → ℕ → Coordinator
-coordinator_with_age c place = record c { age = Some place }
-
--- ---- Done
-
-abbrev pub is_from : Actor → ServerId → Bool
-is_from (actor.Server server) asked = server.0 == asked.0
-is_from _ asked = false
+-- ---- rounds and votes
 
 -- before each round of validation the authority is asked
 abbrev pub asks : Coordinator → Span → Round → Effect Coordinator
@@ -209,11 +243,115 @@ limit_of sc txn = if reads_master sc txn then txn.rounds else view_rounds
 abbrev pub limit_at : Scenario → Coordinator → ℕ
 limit_at sc c = option_map_or (limit_of sc) (slice_get sc.txns c.txn.0) view_rounds
 
+-- a first round of these servers
+abbrev pub round_of : Scenario → Coordinator → List ServerId → Round
+round_of sc c servers =
+    first_round servers (limit_at sc c) (replicate admins_limit (level_at sc c))
+    (is_global (level_at sc c))
+
 -- the first round at commit, of all of the transaction's servers
 abbrev pub commit_round : Scenario → Coordinator → Round
-commit_round sc c =
-    first_round c.servers (limit_at sc c) (replicate admins_limit (level_at sc c))
-    (is_global (level_at sc c))
+commit_round sc c = round_of sc c c.servers
+
+-- one of these queries is at the server
+abbrev pub has_query : Scenario → List Query → ServerId → Bool
+has_query sc queries server = list_any (is_at_server sc server.0) queries
+
+-- of the transaction's servers, those of its queries up to this one
+abbrev pub servers_upto : Scenario → Coordinator → ℕ → List ServerId
+servers_upto sc c number =
+    option_map_or (λ (txn : Transaction). filter (has_query sc (take number txn.queries)) c.servers)
+    (slice_get sc.txns c.txn.0) []
+
+-- the first round over the queries up to this one
+abbrev pub validation_round : Scenario → Coordinator → ℕ → Round
+validation_round sc c number = round_of sc c (servers_upto sc c number)
+
+-- the epoch that a server told; 0, which is no epoch, where it told none
+abbrev pub epoch_of : Coordinator → ServerId → ℕ
+epoch_of c server = unwrap_or (epoch_told c server) 0
+
+-- the request of a turn to prepare
+abbrev pub prepare_with : Coordinator → ℕ → Option Staple → List (AdminId × Version) → ServerId
+    → PrepareRequest
+prepare_with c turn staple want server = record {
+  txn = c.txn;
+  turn = turn;
+  epoch = epoch_of c server;
+  staple = staple;
+  want = want;
+}
+
+-- that to prepare without an evaluation
+abbrev pub vote_letter : Coordinator → ℕ → ServerId → Letter
+vote_letter c turn server = request c server (body.Prepare (prepare_with c turn None [] server))
+
+abbrev pub vote_letters : Coordinator → ℕ → List ServerId → List Letter
+vote_letters c turn servers = map (vote_letter c turn) servers
+
+-- each query was proved as it ran: all of the transaction's servers are asked to prepare without an evaluation
+abbrev pub asks_votes : Coordinator → Effect Coordinator
+asks_votes c =
+    sends (record c { turn = next_turn c; phase = phase.Voting c.servers })
+    (vote_letters c (next_turn c) c.servers)
+
+-- ---- what follows at a point
+
+-- what the transaction does at a point, after so many rounds where all have voted
+abbrev pub makes : Scenario → Coordinator → Point → ℕ → Move → Effect Coordinator
+makes sc c at rounds move.SendQuery = sends_next sc c (next_at at) None (home_of sc c (next_at at))
+makes sc c at rounds move.Ask = asks_in c (phase.Stapling (next_at at))
+makes sc c at rounds move.Probe = probes c (probing_at at)
+makes sc c at rounds move.Validate =
+    asks c (span.Validate (number_at at)) (validation_round sc c (number_at at))
+makes sc c at rounds move.CommitRounds = asks c span.Commit (commit_round sc c)
+makes sc c at rounds move.Votes = asks_votes c
+makes sc c at rounds move.Decide = commits c rounds
+makes sc c at rounds move.Following = ignores c
+
+-- something is done by the move: it leads no further, and a query that is to be sent has a server
+abbrev pub is_made : Scenario → Coordinator → Point → Move → Bool
+is_made sc c at move.Following = false
+is_made sc c at move.SendQuery = is_some (home_of sc c (next_at at))
+is_made sc c at _ = true
+
+abbrev pub if_made : Scenario → Coordinator → Point → Move → Option Move
+if_made sc c at next = if is_made sc c at next then Some next else None
+
+-- what is done at a point that the transaction has passed, if anything is
+abbrev pub move_made : Scenario → Coordinator → Point → Option Move
+move_made sc c at = if_made sc c at (move_after sc c at)
+
+abbrev pub goes_by : Scenario → Coordinator → Coordinator → Point → ℕ → Option Move → Effect Coordinator
+goes_by sc c now at rounds None = ignores c
+goes_by sc c now at rounds (Some next) = makes sc now at rounds next
+
+-- the transaction has passed a point, after so many rounds: c is what the coordinator stays as where nothing is done, and now what it is
+-- with what it has gained
+abbrev pub goes_on : Scenario → Coordinator → Coordinator → Point → ℕ → Effect Coordinator
+goes_on sc c now at rounds = goes_by sc c now at rounds (move_made sc c at)
+
+-- ---- Submit
+
+-- the first query is sent, or the authority is asked before it, and the place where that is sent is the age
+abbrev pub begins : Scenario → Coordinator → Move → Effect Coordinator
+begins sc c move.SendQuery = sends_next sc c 1 None (home_of sc c 1)
+begins sc c move.Ask = asks_in c (phase.Stapling 1)
+begins sc c _ = ignores c
+
+-- what the submission of the transaction does
+abbrev pub submit_row : Scenario → Coordinator → Effect Coordinator
+submit_row sc c = begins sc c (move_at sc c (point.Begun 1))
+
+-- a coordinator that knows the place of its submission
+abbrev pub coordinator_with_age : Coordinator → ℕ → Coordinator
+coordinator_with_age c place = record c { age = Some place }
+
+-- ---- Done
+
+abbrev pub is_from : Actor → ServerId → Bool
+is_from (actor.Server server) asked = server.0 == asked.0
+is_from _ asked = false
 
 -- one instance more
 abbrev pub instances_with : Coordinator → Option ℕ → List Verdict → List Instance
@@ -224,14 +362,47 @@ instances_with c reading proofs = c.instances ++ record { reading = reading; pro
 abbrev pub closes : Coordinator → Option ℕ → List Verdict → Coordinator
 closes c reading proofs = record c { instances = instances_with c reading proofs }
 
--- the instances with the proof of a query that was proved as it ran, which is one of its own
+-- the scheme of the coordinator's transaction
+abbrev pub scheme_at : Scenario → Coordinator → Scheme
+scheme_at sc c =
+    option_map_or (λ (txn : Transaction). txn.scheme) (slice_get sc.txns c.txn.0) scheme.Deferred
+
+-- the proofs so far with that of a query that was proved as it ran
+abbrev pub with_gathered : List Verdict → Option Verdict → List Verdict
+with_gathered gathered None = gathered
+with_gathered gathered (Some verdict) = gathered ++ verdict ∷ []
+
+-- the instances with the proof of such a query, which is one of its own
 abbrev pub with_own : List Instance → Option Verdict → List Instance
 with_own instances None = instances
 with_own instances (Some verdict) = instances ++ record { reading = None; proofs = verdict ∷ [] } ∷ []
 
+-- where the master is not read, the instances with one of all proofs so far, the last of which is that of such a query
+abbrev pub with_all : Bool → List Instance → List Verdict → Option Verdict → List Instance
+with_all reads instances gathered None = instances
+with_all true instances gathered (Some verdict) = instances
+with_all false instances gathered (Some verdict) =
+    instances ++ record { reading = None; proofs = gathered ++ verdict ∷ [] } ∷ []
+
+-- incremental alone gathers
+abbrev pub gathered_by : Scheme → List Verdict → Option Verdict → List Verdict
+gathered_by scheme.Incremental gathered proof = with_gathered gathered proof
+gathered_by _ gathered proof = gathered
+
+-- what it has gathered is an instance at once where the master is not read, and else once it was; under the other schemes a query that
+-- was proved as it ran has an instance of its own
+abbrev pub closed_by : Scheme → Bool → List Instance → List Verdict → Option Verdict → List Instance
+closed_by scheme.Incremental reads instances gathered proof =
+    with_all reads instances gathered proof
+closed_by _ reads instances gathered proof = with_own instances proof
+
 -- a coordinator with the proof of such a query
-abbrev pub with_proof : Coordinator → Option Verdict → Coordinator
-with_proof c proof = record c { instances = with_own c.instances proof }
+abbrev pub with_proof : Scenario → Coordinator → Option Verdict → Coordinator
+with_proof sc c proof =
+    record c {
+      gathered = gathered_by (scheme_at sc c) c.gathered proof;
+      instances = closed_by (scheme_at sc c) (is_global (level_at sc c)) c.instances c.gathered proof;
+    }
 
 -- a coordinator with the deed of a query that ran, and the epoch of its server
 abbrev pub with_deed : Coordinator → ServerId → DoneReply → Query → ℤ → Coordinator
@@ -240,19 +411,6 @@ with_deed c server done query value =
       epochs = slice_set c.epochs server.0 (Some done.epoch);
       deeds = c.deeds ++ deed_of done.query query value ∷ [];
     }
-
--- what is done after the query of this number; c is what the coordinator was, and now what it is with its deed. A move that has no row
--- yet does nothing, and leaves the coordinator as it was
-abbrev pub makes : Scenario → Coordinator → Coordinator → ℕ → Move → Effect Coordinator
-makes sc c now number move.SendQuery =
-    sends_next sc c now (next_number number) None (home_of sc c (next_number number))
-makes sc c now number move.Ask = asks_in now (phase.Stapling (next_number number))
-makes sc c now number move.CommitRounds = asks now span.Commit (commit_round sc now)
-makes sc c now number _ = ignores c
-
--- the transaction goes on after the query of this number
-abbrev pub goes_on : Scenario → Coordinator → Coordinator → ℕ → Effect Coordinator
-goes_on sc c now number = makes sc c now number (move_after sc c number)
 
 -- an older transaction stood in the way of a query, as its server said at the place where it answered
 abbrev pub died_for : ServerId → DoneReply → TxnId → ℕ → Died
@@ -277,16 +435,17 @@ denied_by verdict =
       place = verdict.place;
     }
 
--- by the answer: what ran is kept, and the transaction goes on; where its proof is false, an older one stood in the
--- way, or what was done at the server was lost, it aborts. Another answer that ends the transaction is not built
+-- by the answer: what ran is kept, and the transaction goes on; where its proof is false, the server knows a newer version than the
+-- pinned one, an older transaction stood in the way, or what was done at the server was lost, it aborts
 abbrev pub on_answer : Scenario → Coordinator → QueryReply → Answer → Effect Coordinator
 on_answer sc c reply (answer.Ran value verdict) =
-    goes_on sc c (with_proof (with_deed c reply.server reply.done reply.query value) verdict) reply.done.query
+    goes_on sc c (with_proof sc (with_deed c reply.server reply.done reply.query value) verdict)
+    (point.Ran reply.done.query) 0
 on_answer sc c reply (answer.Denied verdict) = aborts c (cause.Denied (denied_by verdict))
+on_answer sc c reply (answer.Newer newer) = aborts c (cause.Newer newer)
 on_answer sc c reply (answer.Died other) =
     aborts c (cause.Died (died_for reply.server reply.done other reply.sent))
 on_answer sc c reply answer.Restarted = aborts c (cause.Restarted reply.server)
-on_answer sc c reply _ = unbuilt c
 
 -- the reply to a query, from the server that was asked
 abbrev pub on_done_from : Scenario → Coordinator → ℕ → Actor → DoneReply → Query → Option ServerId
@@ -316,10 +475,6 @@ on_done sc c awaited sent from done =
 
 -- ---- Tell
 
--- the epoch that a server told; 0, which is no epoch, where it told none
-abbrev pub epoch_of : Coordinator → ServerId → ℕ
-epoch_of c server = unwrap_or (epoch_told c server) 0
-
 -- what the last update wants of a server; nothing where it named the server not
 abbrev pub want_for : Round → ServerId → List (AdminId × Version)
 want_for round server =
@@ -327,17 +482,30 @@ want_for round server =
     (find (λ (named : Wanted). same_server named.server server) round.named) []
 
 abbrev pub prepare_request : Coordinator → ℕ → Round → Staple → ServerId → PrepareRequest
-prepare_request c turn round staple server = record {
-  txn = c.txn;
-  turn = turn;
-  epoch = epoch_of c server;
-  staple = Some staple;
-  want = want_for round server;
-}
+prepare_request c turn round staple server =
+    prepare_with c turn (Some staple) (want_for round server) server
 
 abbrev pub prepare_letter : Coordinator → ℕ → Round → Staple → ServerId → Letter
 prepare_letter c turn round staple server =
     request c server (body.Prepare (prepare_request c turn round staple server))
+
+abbrev pub validate_request : Coordinator → ℕ → Round → Staple → ServerId → ValidateRequest
+validate_request c turn round staple server = record {
+  txn = c.txn;
+  turn = turn;
+  epoch = epoch_of c server;
+  staple = staple;
+  want = want_for round server;
+}
+
+abbrev pub validate_letter : Coordinator → ℕ → Round → Staple → ServerId → Letter
+validate_letter c turn round staple server =
+    request c server (body.Validate (validate_request c turn round staple server))
+
+-- the request to a server of a round: to evaluate the queries so far, or to prepare at commit
+abbrev pub round_letter : Coordinator → Span → ℕ → Round → Staple → ServerId → Letter
+round_letter c (span.Validate number) turn round staple server = validate_letter c turn round staple server
+round_letter c span.Commit turn round staple server = prepare_letter c turn round staple server
 
 abbrev pub staple_of : TellReply → ℕ → Staple
 staple_of tell sent = record { place = sent; clock = tell.clock; revoked = tell.revoked }
@@ -349,54 +517,58 @@ server_of_target target = target.server
 abbrev pub awaited_in : Round → List ServerId
 awaited_in round = map server_of_target (filter is_missing round.targets)
 
--- each awaited server is asked to prepare with the staple, at the versions that are wanted of it
-abbrev pub prepares : Coordinator → Span → Round → Staple → Effect Coordinator
-prepares c over round staple =
-    sends (record c { turn = next_turn c; phase = phase.Checking over round staple })
-    (map (prepare_letter c (next_turn c) round staple) (awaited_in round))
+-- each of them is asked, in a turn, with the staple, at the versions that are wanted of it
+abbrev pub round_letters : Coordinator → Span → ℕ → Round → Staple → List Letter
+round_letters c over turn round staple =
+    map (round_letter c over turn round staple) (awaited_in round)
 
--- the authority was asked before a query, or before a round at commit
+abbrev pub checks : Coordinator → Span → Round → Staple → Effect Coordinator
+checks c over round staple =
+    sends (record c { turn = next_turn c; phase = phase.Checking over round staple })
+    (round_letters c over (next_turn c) round staple)
+
+-- the authority was asked before a query, or before a round
 abbrev pub on_staple : Scenario → Coordinator → Phase → Staple → Effect Coordinator
 on_staple sc c (phase.Stapling number) staple =
-    sends_next sc c c number (Some staple) (home_of sc c number)
-on_staple sc c (phase.Asking span.Commit round) staple = prepares c span.Commit round staple
+    sends_next sc c number (Some staple) (home_of sc c number)
+on_staple sc c (phase.Asking over round) staple = checks c over round staple
 on_staple sc c _ staple = ignores c
 
 abbrev pub on_tell : Scenario → Coordinator → Phase → ℕ → TellReply → Effect Coordinator
 on_tell sc c awaited sent tell =
     if tell.turn == c.turn then on_staple sc c awaited (staple_of tell sent) else ignores c
 
--- ---- Vote
-
-abbrev pub commit_record : Coordinator → ℕ → CommitRecord
-commit_record c rounds = record { rounds = rounds; instances = c.instances; deeds = c.deeds }
-
--- the transaction commits, after so many rounds, on the instances that it has closed
-abbrev pub commits : Coordinator → ℕ → Effect Coordinator
-commits c rounds = decides c Commit (decision.Commit (commit_record c rounds))
+-- ---- a reply in a round
 
 -- what a round awaits: replies, with the staple that they are asked with, or a reading of the master
 abbrev pub phase_of : Span → Round → Option Staple → Phase
 phase_of over round (Some staple) = phase.Checking over round staple
 phase_of over round None = phase.Reading over round
 
+-- a coordinator that awaits it
+abbrev pub awaiting : Coordinator → Span → Round → Option Staple → Coordinator
+awaiting c over round staple = record c { phase = phase_of over round staple }
+
 -- the round goes on to await what it awaits
 abbrev pub stays : Coordinator → Span → Round → Option Staple → Effect Coordinator
-stays c over round staple = sends (record c { phase = phase_of over round staple }) []
+stays c over round staple = sends (awaiting c over round staple) []
 
 abbrev pub place_of : Reading → ℕ
 place_of reading = reading.place
 
--- all servers have voted YES, and all proofs are true, of one version each: the transaction commits. A move that has no row yet does
--- nothing
-abbrev pub on_all_true : Coordinator → Span → Round → Option Staple → Option Reading → Move
-    → Effect Coordinator
-on_all_true c over round staple reading move.Decide =
-    commits (closes c (option_map place_of reading) (by_query (proofs_in round.targets))) round.number
-on_all_true c over round staple reading _ = stays c over round staple
+-- the point that a round leads to
+abbrev pub point_of : Span → Point
+point_of (span.Validate number) = point.Validated number
+point_of span.Commit = point.Voted
+
+-- all have replied, and all proofs are true, of one version each: they are an instance, and the transaction goes on
+abbrev pub on_all_true : Scenario → Coordinator → Span → Round → Option Reading → Effect Coordinator
+on_all_true sc c over round reading =
+    goes_on sc c (closes c (option_map place_of reading) (by_query (proofs_in round.targets)))
+    (point_of over) round.number
 
 -- by what is judged of the replies: a missing one is awaited, servers that are out of date are asked again as long as rounds are left, a
--- false proof denies, and where all is true the table says what follows
+-- false proof denies, and where all is true the transaction goes on
 abbrev pub on_judged : Scenario → Coordinator → Span → Round → Option Staple → Option Reading → Judged
     → Effect Coordinator
 on_judged sc c over round staple reading judged.Waiting = stays c over round staple
@@ -404,20 +576,7 @@ on_judged sc c over round staple reading (judged.Spent mets) = aborts c (cause.R
 on_judged sc c over round staple reading (judged.Update named) = asks c over (after_judgement round reading)
 on_judged sc c over round staple reading (judged.False verdict) = aborts c (cause.Denied (denied_by verdict))
 on_judged sc c over round staple reading judged.AllTrue =
-    on_all_true c over round staple reading (move_at sc c point.Voted)
-
--- the request of a turn to the master
-abbrev pub probe_letter : Coordinator → ℕ → Letter
-probe_letter c turn = record {
-  from = actor.Coordinator c.txn;
-  to = actor.Master;
-  body = body.Probe (record { txn = c.txn; turn = turn });
-}
-
--- the master is asked for the newest versions
-abbrev pub probes : Coordinator → Phase → Effect Coordinator
-probes c awaiting =
-    sends (record c { turn = next_turn c; phase = awaiting }) (probe_letter c (next_turn c) ∷ [])
+    on_all_true sc (awaiting c over round staple) over round reading
 
 -- a round with one more reply: others are awaited; or all have replied, and the master is read first where the round
 -- reads it, or the round is judged
@@ -426,6 +585,8 @@ on_reply sc c over round staple =
     if list_any is_missing round.targets then stays c over round (Some staple)
     else if round.reads then probes c (phase.Reading over round)
     else on_judged sc c over round (Some staple) None (judge round None)
+
+-- ---- Vote
 
 -- what a server's vote NO refuses
 abbrev pub refused_by : ServerId → ℕ → ℤ → OutOfRange
@@ -441,14 +602,36 @@ on_vote_of sc c over round staple server (vote.Yes verdicts) =
     on_reply sc c over (after_reply round server verdicts) staple
 on_vote_of sc c over round staple server (vote.No why) = on_no c server why
 
--- the vote of this server is awaited, in a round at commit
+abbrev pub without : List ServerId → ServerId → List ServerId
+without awaited server = filter (λ (other : ServerId). not (other.0 == server.0)) awaited
+
+-- a coordinator that awaits the votes of these servers
+abbrev pub voting : Coordinator → List ServerId → Coordinator
+voting c awaited = record c { phase = phase.Voting awaited }
+
+-- one more server has voted YES: these are awaited; or all have voted, and the transaction goes on, after no rounds
+abbrev pub on_votes_left : Scenario → Coordinator → List ServerId → Effect Coordinator
+on_votes_left sc c [] = goes_on sc (voting c []) (voting c []) point.Voted 0
+on_votes_left sc c (server ∷ others) = sends (voting c (server ∷ others)) []
+
+-- a vote that was asked for without an evaluation
+abbrev pub on_plain_vote : Scenario → Coordinator → List ServerId → ServerId → Vote → Effect Coordinator
+on_plain_vote sc c awaited server (vote.Yes verdicts) = on_votes_left sc c (without awaited server)
+on_plain_vote sc c awaited server (vote.No why) = on_no c server why
+
+abbrev pub is_among : List ServerId → ServerId → Bool
+is_among awaited server = list_any (λ (other : ServerId). other.0 == server.0) awaited
+
+-- the vote of this server is awaited, in a round at commit or without one
 abbrev pub awaits_vote : Phase → ServerId → Bool
 awaits_vote (phase.Checking span.Commit round staple) server = is_awaited round.targets server
+awaits_vote (phase.Voting awaited) server = is_among awaited server
 awaits_vote _ server = false
 
 abbrev pub vote_at : Scenario → Coordinator → Phase → ServerId → Vote → Effect Coordinator
 vote_at sc c (phase.Checking span.Commit round staple) server said =
     on_vote_of sc c span.Commit round staple server said
+vote_at sc c (phase.Voting awaited) server said = on_plain_vote sc c awaited server said
 vote_at sc c _ server said = ignores c
 
 abbrev pub on_vote : Scenario → Coordinator → Phase → Actor → VoteReply → Effect Coordinator
@@ -457,26 +640,70 @@ on_vote sc c awaited (actor.Server server) reply =
     else ignores c
 on_vote sc c awaited _ reply = ignores c
 
+-- ---- Verdicts
+
+-- a server evaluated the queries so far, or what was done at it was lost
+abbrev pub on_verdicts_of : Scenario → Coordinator → Span → Round → Staple → ServerId
+    → Option (List Verdict) → Effect Coordinator
+on_verdicts_of sc c over round staple server None = aborts c (cause.Restarted server)
+on_verdicts_of sc c over round staple server (Some verdicts) =
+    on_reply sc c over (after_reply round server verdicts) staple
+
+-- the verdicts of this server are awaited, in a round over the queries so far
+abbrev pub awaits_verdicts : Phase → ServerId → Bool
+awaits_verdicts (phase.Checking (span.Validate number) round staple) server =
+    is_awaited round.targets server
+awaits_verdicts _ server = false
+
+abbrev pub verdicts_at : Scenario → Coordinator → Phase → ServerId → Option (List Verdict)
+    → Effect Coordinator
+verdicts_at sc c (phase.Checking (span.Validate number) round staple) server said =
+    on_verdicts_of sc c (span.Validate number) round staple server said
+verdicts_at sc c _ server said = ignores c
+
+abbrev pub on_verdicts : Scenario → Coordinator → Phase → Actor → VerdictsReply → Effect Coordinator
+on_verdicts sc c awaited (actor.Server server) reply =
+    if (reply.turn == c.turn) && awaits_verdicts awaited server
+    then verdicts_at sc c awaited server reply.verdicts
+    else ignores c
+on_verdicts sc c awaited _ reply = ignores c
+
 -- ---- Newest
 
 -- what the master told, at the place where it was sent
 abbrev pub reading_of : NewestReply → ℕ → Reading
 reading_of reply sent = record { place = sent; newest = reply.newest }
 
--- the master was asked once all of a round at commit had replied
+-- what the reading says of the proofs so far, each of which is of an administrator under global consistency
+abbrev pub older_than : Coordinator → Reading → Option Cause
+older_than c reading = older (replicate admins_limit level.Global) c.gathered reading
+
+-- where one is older than the newest version the transaction aborts; else all of them are an instance, and it goes on
+abbrev pub on_older : Scenario → Coordinator → Point → Reading → Option Cause → Effect Coordinator
+on_older sc c at reading (Some why) = aborts c why
+on_older sc c at reading None =
+    goes_on sc c (closes c (Some (place_of reading)) c.gathered) at 0
+
+abbrev pub on_proofs_read : Scenario → Coordinator → Point → Reading → Effect Coordinator
+on_proofs_read sc c at reading = on_older sc c at reading (older_than c reading)
+
+-- the master was asked once all of a round had replied
+abbrev pub on_round_read : Scenario → Coordinator → Phase → Reading → Effect Coordinator
+on_round_read sc c (phase.Reading over round) reading =
+    on_judged sc c over round None (Some reading) (judge round (Some reading))
+on_round_read sc c _ reading = ignores c
+
+-- or after a query, or after the votes
 abbrev pub on_reading : Scenario → Coordinator → Phase → Reading → Effect Coordinator
-on_reading sc c (phase.Reading span.Commit round) reading =
-    on_judged sc c span.Commit round None (Some reading) (judge round (Some reading))
-on_reading sc c _ reading = ignores c
+on_reading sc c (phase.Probing number) reading = on_proofs_read sc c (point.Read number) reading
+on_reading sc c phase.VoteProbing reading = on_proofs_read sc c point.VoteRead reading
+on_reading sc c awaited reading = on_round_read sc c awaited reading
 
 abbrev pub on_newest : Scenario → Coordinator → Phase → ℕ → NewestReply → Effect Coordinator
 on_newest sc c awaited sent reply =
     if reply.turn == c.turn then on_reading sc c awaited (reading_of reply sent) else ignores c
 
 -- ---- Ack
-
-abbrev pub without : List ServerId → ServerId → List ServerId
-without awaited server = filter (λ (other : ServerId). not (other.0 == server.0)) awaited
 
 abbrev pub ack_from : Coordinator → Outcome → List ServerId → Actor → Effect Coordinator
 ack_from c outcome awaited (actor.Server server) = sends (record c { phase = phase.Ending outcome (without awaited server) }) []
@@ -503,10 +730,10 @@ on_inquire c _ from = ignores c
 abbrev pub on_body : Scenario → Coordinator → ℕ → Actor → Body → Effect Coordinator
 on_body sc c sent from (body.Done done) = on_done sc c c.phase sent from done
 on_body sc c sent from (body.Tell tell) = on_tell sc c c.phase sent tell
+on_body sc c sent from (body.Verdicts reply) = on_verdicts sc c c.phase from reply
 on_body sc c sent from (body.Vote reply) = on_vote sc c c.phase from reply
-on_body sc c sent from (body.Ack ack) = on_ack c c.phase from
-on_body sc c sent from (body.Verdicts reply) = unbuilt c
 on_body sc c sent from (body.Newest reply) = on_newest sc c c.phase sent reply
+on_body sc c sent from (body.Ack ack) = on_ack c c.phase from
 on_body sc c sent from (body.Inquire inquiry) = on_inquire c c.phase from
 on_body sc c sent from _ = ignores c
 
@@ -514,10 +741,6 @@ abbrev pub coordinator_row : Scenario → Coordinator → Mail → Effect Coordi
 coordinator_row sc c mail = on_body sc c mail.sent mail.letter.from mail.letter.body
 
 -- ---- timers
-
--- what is sent again in a phase that no coordinator enters yet
-abbrev pub unbuilt_repeat : List Letter
-unbuilt_repeat = []
 
 -- a query is asked again where it has a server
 abbrev pub query_again : Scenario → Coordinator → ℕ → Option Staple → Option ServerId → List Letter
@@ -530,12 +753,13 @@ abbrev pub repeats : Scenario → Coordinator → Phase → List Letter
 repeats sc c phase.Idle = []
 repeats sc c (phase.Stapling number) = ask_letter c c.turn ∷ []
 repeats sc c (phase.Querying number staple) = query_again sc c number staple (home_of sc c number)
+repeats sc c (phase.Probing number) = probe_letter c c.turn ∷ []
 repeats sc c (phase.Asking over round) = ask_letter c c.turn ∷ []
-repeats sc c (phase.Checking span.Commit round staple) =
-    map (prepare_letter c c.turn round staple) (awaited_in round)
+repeats sc c (phase.Checking over round staple) = round_letters c over c.turn round staple
 repeats sc c (phase.Reading over round) = probe_letter c c.turn ∷ []
+repeats sc c (phase.Voting awaited) = vote_letters c c.turn awaited
+repeats sc c phase.VoteProbing = probe_letter c c.turn ∷ []
 repeats sc c (phase.Ending outcome awaited) = decide_letters c outcome awaited
-repeats sc c _ = unbuilt_repeat
 
 -- a timer sends the outstanding request again, and changes nothing
 abbrev pub timer_row : Scenario → Coordinator → Effect Coordinator

@@ -1,30 +1,21 @@
-//! A coordinator: the requests of one transaction, in their order, and its decision.
-ghost use Rattle.std.specs.Prelude.{◌≡◌, ◌<◌, ◌^◌, ◌==◌, ◌++◌, not, Option, Some, None, [], ◌∷◌, length, map, filter, IfOk, OnOk};
-ghost use Rattle.std.specs.List.{list_all};
+//! A coordinator: its state, and which of its rows a mail calls for.
+ghost use Rattle.std.specs.Prelude.{◌≡◌, ◌<◌, ◌^◌, length, IfOk};
 ghost use Rattle.std.specs.Option.{option_copied};
-ghost use Rattle.tp_model.specs.Words.{ServerId, Verdict};
-ghost use Rattle.tp_model.specs.Words.body;
-ghost use Rattle.tp_model.specs.Words.vote;
-ghost use Rattle.tp_coord.specs.declared.coordinator.Phase.TheVariants as Phase;
 ghost use Rattle.tp_types.specs.Effect.{Gives};
 ghost use Rattle.tp_coord.specs.Opened as opened;
 ghost use Rattle.tp_coord.specs.Row as row;
 
-use crate::decisions::denied_by;
-use crate::moves::move_of;
-use crate::sums::asked_value;
 use std::alloc::Global;
 use std::marker::Model;
-use tp_model::{deed_of, item_of, query_at, servers_of};
+use tp_model::{item_of, query_at, servers_of};
 use tp_round::Round;
-use tp_scheme::{Move, Point};
+use tp_scheme::{Gathered, Move, Point};
 use tp_types::{
-    Actor, Answer, Body, Cause, Deed, Died, DoneReply, Instance, Letter, List, Mail, NoMemory,
-    Outcome, Place, Query, QueryRequest, Reaction, Scenario, ServerId, Staple, TryClone, TxnId,
-    Verdict, both, ignored, none_for_each, sent_alone, unbuilt,
+    Actor, Body, Deed, Letter, List, Mail, NoMemory, Outcome, Place, Query, Reaction, Scenario,
+    ServerId, Staple, TxnId, both, ignored, none_for_each,
 };
 
-/// What a round is over. No round is over the queries so far yet.
+/// What a round is over.
 #[derive(Clone, Copy)]
 pub enum Span {
     /// The queries up to this one, which have run.
@@ -47,7 +38,7 @@ pub enum Phase {
         query: u32,
         staple: Option<Staple>,
     },
-    /// The master was asked after a query ran. No coordinator asks it yet.
+    /// The master was asked after a query ran.
     Probing {
         query: u32,
     },
@@ -67,11 +58,11 @@ pub enum Phase {
         span: Span,
         round: Round,
     },
-    /// These servers were asked to prepare without a proof, and have not voted. None is asked so yet.
+    /// The servers were asked to prepare without an evaluation; these have not voted.
     Voting {
         awaited: List<ServerId>,
     },
-    /// All servers have voted so, and the master was asked. No coordinator asks it yet.
+    /// All servers have voted so, and the master was asked.
     VoteProbing,
     /// The decision was sent; these servers have not acknowledged it.
     Ending {
@@ -93,10 +84,8 @@ pub struct Coordinator {
     /// The epoch of each server of the scenario, as its last reply told it.
     pub epochs: List<Option<u64>>,
     pub deeds: List<Deed>,
-    /// The proofs so far, where each query is proved as it runs.
-    pub gathered: List<Verdict>,
-    /// The instances that agreed so far.
-    pub instances: List<Instance>,
+    /// The proofs so far, where each query is proved as it runs, and the instances that agreed so far.
+    pub gathered: Gathered,
     pub phase: Phase,
 }
 
@@ -112,8 +101,8 @@ impl Model for Coordinator {
       turn = c.turn;
       epochs = c.epochs;
       deeds = c.deeds;
-      gathered = c.gathered;
-      instances = c.instances;
+      gathered = c.gathered.proofs;
+      instances = c.gathered.instances;
       phase = c.phase;
     } };
 }
@@ -133,8 +122,7 @@ impl Coordinator {
             turn: 0,
             epochs,
             deeds: List::new(alloc),
-            gathered: List::new(alloc),
-            instances: List::new(alloc),
+            gathered: Gathered::new(alloc),
             phase: Phase::Idle,
         })
     }
@@ -148,26 +136,6 @@ impl Coordinator {
             Move::SendQuery => self.sends_next(alloc, scenario, 1, None),
             Move::Ask => self.asks_in(alloc, Phase::Stapling { query: 1 }),
             _ => Ok(ignored(alloc)),
-        }
-    }
-
-    /// A query is sent, with the staple if it is proved as it runs, where it has a server.
-    pub(crate) fn sends_next(
-        &mut self,
-        alloc: Global,
-        scenario: &Scenario,
-        number: u32,
-        staple: Option<Staple>,
-    ) -> Result<Reaction, NoMemory>
-        ensures { IfOk result (λ reaction.
-            Gives
-            (row.sends_next scenario.now self.old self.old number staple
-            (row.home_of scenario.now self.old number))
-            self.new reaction) }
-    {
-        match self.home_of(scenario, number) {
-            None => Ok(ignored(alloc)),
-            Some(server) => self.sends_query(alloc, scenario, number, staple, server),
         }
     }
 
@@ -206,16 +174,16 @@ impl Coordinator {
         match &mail.letter.body {
             Body::Done(done) => self.on_done(alloc, scenario, mail.sent, from, done),
             Body::Tell(tell) => self.on_tell(alloc, scenario, mail.sent, tell),
+            Body::Verdicts(reply) => self.on_verdicts(alloc, scenario, from, reply),
             Body::Vote(reply) => self.on_vote(alloc, scenario, from, reply),
+            Body::Newest(reply) => self.on_newest(alloc, scenario, mail.sent, reply),
             Body::Ack(_) => self.on_ack(alloc, from),
             Body::Inquire(_) => self.on_inquire(alloc, from),
-            Body::Newest(reply) => self.on_newest(alloc, scenario, mail.sent, reply),
-            Body::Verdicts(_) => Ok(unbuilt(alloc)),
             _ => Ok(ignored(alloc)),
         }
     }
 
-    fn query_of<'a>(&self, scenario: &'a Scenario, number: u32) -> Option<&'a Query>
+    pub(crate) fn query_of<'a>(&self, scenario: &'a Scenario, number: u32) -> Option<&'a Query>
         ensures { option_copied result ≡ row.own_query scenario.now self.now number }
     {
         match scenario.txns.get(self.txn.0 as usize) {
@@ -273,261 +241,6 @@ impl Coordinator {
             None => None,
         }
     }
-
-    /// The value that a query is asked with: a write's sum over what was read.
-    pub(crate) fn value_of(
-        &self,
-        alloc: Global,
-        scenario: &Scenario,
-        number: u32,
-    ) -> Result<Option<i128>, NoMemory>
-        ensures { IfOk result (λ value. value ≡ row.value_of scenario.now self.now number) }
-    {
-        match scenario.txns.get(self.txn.0 as usize) {
-            Some(txn) => asked_value(alloc, txn, self.deeds.as_slice(), number),
-            None => Ok(None),
-        }
-    }
-
-    fn sends_query(
-        &mut self,
-        alloc: Global,
-        scenario: &Scenario,
-        number: u32,
-        staple: Option<Staple>,
-        server: ServerId,
-    ) -> Result<Reaction, NoMemory>
-        ensures { IfOk result (λ reaction.
-            Gives (row.sends_query scenario.now self.old number staple server) self.new reaction) }
-    {
-        let value = self.value_of(alloc, scenario, number);
-        let (value, sent) = both(value, staple.try_clone(alloc))?;
-        let letter = self.query_letter(self.next_turn(), server, number, value, sent);
-        self.awaits(Phase::Querying {
-            query: number,
-            staple,
-        });
-        sent_alone(alloc, letter)
-    }
-
-    pub(crate) fn query_letter(
-        &self,
-        turn: u32,
-        server: ServerId,
-        number: u32,
-        value: Option<i128>,
-        staple: Option<Staple>,
-    ) -> Letter
-        ensures { result ≡ row.request self.now server
-            (body.Query (row.query_with self.now turn server number value staple)) }
-    {
-        let query = QueryRequest {
-            txn: self.txn,
-            turn,
-            query: number,
-            age: self.age,
-            epoch: self.epoch_told(server),
-            value,
-            staple,
-            pin: None,
-        };
-        self.request(server, Body::Query(query))
-    }
-
-    /// What the transaction does at a point, by the table of moves.
-    pub(crate) fn move_at(&self, scenario: &Scenario, at: Point) -> Move
-        ensures { result ≡ row.move_at scenario.now self.now at }
-    {
-        match scenario.txns.get(self.txn.0 as usize) {
-            None => Move::Following,
-            Some(txn) => move_of(scenario, at, txn),
-        }
-    }
-
-    /// What the transaction does after a query that ran.
-    fn move_after(&self, scenario: &Scenario, number: u32) -> Move
-        ensures { result ≡ row.move_after scenario.now self.now number }
-    {
-        match self.move_at(scenario, Point::Ran { query: number }) {
-            Move::Following => {
-                let query = number.saturating_add(1);
-                self.move_at(scenario, Point::Begun { query })
-            }
-            next => next,
-        }
-    }
-
-    /// A query ran: the table is asked what follows before its deed is kept, and its proof if it has one.
-    fn goes_on(
-        &mut self,
-        alloc: Global,
-        scenario: &Scenario,
-        server: ServerId,
-        done: &DoneReply,
-        query: &Query,
-        value: i128,
-        verdict: &Option<Verdict>,
-    ) -> Result<Reaction, NoMemory>
-        ensures { IfOk result (λ reaction.
-            Gives
-            (row.goes_on scenario.now self.old
-            (row.with_proof (row.with_deed self.old server done.now query.now value) verdict.now)
-            done.now.query)
-            self.new reaction) }
-    {
-        match self.move_after(scenario, done.query) {
-            Move::SendQuery => self.runs_next(alloc, scenario, server, done, query, value, verdict),
-            Move::Ask => {
-                self.ran(alloc, server, done, query, value, verdict)?;
-                let query = done.query.saturating_add(1);
-                self.asks_in(alloc, Phase::Stapling { query })
-            }
-            Move::CommitRounds => {
-                self.ran(alloc, server, done, query, value, verdict)?;
-                self.begins_rounds(alloc, scenario)
-            }
-            _ => Ok(ignored(alloc)),
-        }
-    }
-
-    /// The next query is sent, where it has a server.
-    fn runs_next(
-        &mut self,
-        alloc: Global,
-        scenario: &Scenario,
-        server: ServerId,
-        done: &DoneReply,
-        query: &Query,
-        value: i128,
-        verdict: &Option<Verdict>,
-    ) -> Result<Reaction, NoMemory>
-        ensures { IfOk result (λ reaction.
-            Gives
-            (row.sends_next scenario.now self.old
-            (row.with_proof (row.with_deed self.old server done.now query.now value) verdict.now)
-            (row.next_number done.now.query)
-            None
-            (row.home_of scenario.now self.old (row.next_number done.now.query)))
-            self.new reaction) }
-    {
-        let next = done.query.saturating_add(1);
-        match self.home_of(scenario, next) {
-            None => Ok(ignored(alloc)),
-            Some(home) => {
-                self.ran(alloc, server, done, query, value, verdict)?;
-                self.sends_query(alloc, scenario, next, None, home)
-            }
-        }
-    }
-
-    fn on_done(
-        &mut self,
-        alloc: Global,
-        scenario: &Scenario,
-        sent: Place,
-        from: Actor,
-        done: &DoneReply,
-    ) -> Result<Reaction, NoMemory>
-        ensures { IfOk result (λ reaction.
-            Gives
-            (row.on_done scenario.now self.old self.old.phase sent from done.now)
-            self.new reaction) }
-    {
-        if !self.awaits_query(done) {
-            return Ok(ignored(alloc));
-        }
-        let Some(query) = self.query_of(scenario, done.query) else {
-            return Ok(ignored(alloc));
-        };
-        match server_of(scenario, query) {
-            Some(server) if is_from(from, server) => {
-                self.answered(alloc, scenario, sent, server, done, query)
-            }
-            _ => Ok(ignored(alloc)),
-        }
-    }
-
-    fn answered(
-        &mut self,
-        alloc: Global,
-        scenario: &Scenario,
-        sent: Place,
-        server: ServerId,
-        done: &DoneReply,
-        query: &Query,
-    ) -> Result<Reaction, NoMemory>
-        ensures { IfOk result (λ reaction.
-            Gives
-            (row.on_answer scenario.now self.old
-            (record { sent = sent; server = server; done = done.now; query = query.now })
-            done.now.answer)
-            self.new reaction) }
-    {
-        match &done.answer {
-            Answer::Ran { value, verdict } => {
-                self.goes_on(alloc, scenario, server, done, query, *value, verdict)
-            }
-            Answer::Denied { verdict } => self.aborts(alloc, Cause::Denied(denied_by(verdict))),
-            Answer::Died { other } => {
-                let died = Died {
-                    query: done.query,
-                    server,
-                    other: *other,
-                    place: sent,
-                };
-                self.aborts(alloc, Cause::Died(died))
-            }
-            Answer::Restarted => self.aborts(alloc, Cause::Restarted { server }),
-            _ => Ok(unbuilt(alloc)),
-        }
-    }
-
-    fn awaits_query(&self, done: &DoneReply) -> bool
-        ensures { result ≡ row.awaits_query self.now self.now.phase done.now }
-    {
-        match &self.phase {
-            Phase::Querying { query, .. } => done.turn == self.turn && done.query == *query,
-            _ => false,
-        }
-    }
-
-    fn ran(
-        &mut self,
-        alloc: Global,
-        server: ServerId,
-        done: &DoneReply,
-        query: &Query,
-        value: i128,
-        verdict: &Option<Verdict>,
-    ) -> Result<(), NoMemory>
-        ensures { OnOk result
-            (self.new
-            ≡ row.with_proof (row.with_deed self.old server done.now query.now value) verdict.now) }
-    {
-        self.deeds.push(deed_of(done.query, query, value))?;
-        self.epochs.put(server.0 as usize, Some(done.epoch));
-        keeps_proof(alloc, &mut self.instances, verdict)
-    }
-}
-
-/// The proof of a query that was proved as it ran is an instance of its own.
-fn keeps_proof(
-    alloc: Global,
-    instances: &mut List<Instance>,
-    verdict: &Option<Verdict>,
-) -> Result<(), NoMemory>
-    ensures { OnOk result (instances.new ≡ row.with_own instances.old verdict.now) }
-{
-    match verdict {
-        None => Ok(()),
-        Some(verdict) => {
-            let proofs = List::of_one(alloc, verdict.try_clone(alloc)?)?;
-            instances.push(Instance {
-                reading: None,
-                proofs,
-            })
-        }
-    }
 }
 
 fn servers_at(alloc: Global, scenario: &Scenario, txn: TxnId) -> Result<List<ServerId>, NoMemory>
@@ -540,21 +253,12 @@ fn servers_at(alloc: Global, scenario: &Scenario, txn: TxnId) -> Result<List<Ser
     }
 }
 
-fn server_of(scenario: &Scenario, query: &Query) -> Option<ServerId>
+pub(crate) fn server_of(scenario: &Scenario, query: &Query) -> Option<ServerId>
     ensures { result ≡ row.server_of scenario.now query.now }
 {
     match scenario.items.get(item_of(query).0 as usize) {
         None => None,
         Some(item) => Some(item.server),
-    }
-}
-
-fn is_from(from: Actor, asked: ServerId) -> bool
-    ensures { result ≡ row.is_from from asked }
-{
-    match from {
-        Actor::Server(server) => server.0 == asked.0,
-        _ => false,
     }
 }
 

@@ -4,16 +4,14 @@ ghost use Rattle.tp_coord.specs.declared.coordinator.Phase.TheVariants as Phase;
 ghost use Rattle.tp_model.specs.Words.{ServerId};
 ghost use Rattle.tp_model.specs.Words.body;
 ghost use Rattle.tp_types.specs.Effect.{Gives, sends};
-ghost use Rattle.tp_round.specs.Replies as replies;
 ghost use Rattle.tp_coord.specs.Row as row;
 
 use crate::coordinator::{Coordinator, Phase};
 use std::alloc::Global;
-use tp_round::Round;
 use tp_types::{
-    Actor, Body, Cause, CommitRecord, DecideRequest, Decided, Decision, Denied, Instance, Letter,
-    List, NoMemory, Outcome, Place, Reaction, Record, ServerId, TryClone, Verdict, both, ignored,
-    nothing, sent_alone,
+    Actor, Body, Cause, CommitRecord, DecideRequest, Decided, Decision, Denied, Letter, List,
+    NoMemory, Outcome, Reaction, Record, ServerId, TryClone, Verdict, both, ignored, nothing,
+    sent_alone,
 };
 
 impl Coordinator {
@@ -23,29 +21,16 @@ impl Coordinator {
         self.decides(alloc, Outcome::Abort, Decision::Abort(why))
     }
 
-    /// The transaction commits on the proofs of a round, which close an instance, with the place of the reading after
-    /// them.
-    pub(crate) fn commits(
-        &mut self,
-        alloc: Global,
-        round: &Round,
-        reading: Option<Place>,
-    ) -> Result<Reaction, NoMemory>
-        ensures { IfOk result (λ reaction.
-            Gives
-            (row.commits
-            (row.closes self.old reading (replies.by_query (replies.proofs_in round.now.targets)))
-            round.now.number)
-            self.new reaction) }
+    /// The transaction commits, after so many rounds, on the instances that it has closed.
+    pub(crate) fn commits(&mut self, alloc: Global, rounds: u32) -> Result<Reaction, NoMemory>
+        ensures { IfOk result (λ reaction. Gives (row.commits self.old rounds) self.new reaction) }
     {
-        self.instances.push(Instance {
-            reading,
-            proofs: round.proofs(alloc)?,
-        })?;
+        let instances = self.gathered.instances().try_clone(alloc);
+        let (instances, deeds) = both(instances, self.deeds.try_clone(alloc))?;
         let commit = CommitRecord {
-            rounds: round.rounds(),
-            instances: self.instances.try_clone(alloc)?,
-            deeds: self.deeds.try_clone(alloc)?,
+            rounds,
+            instances,
+            deeds,
         };
         self.decides(alloc, Outcome::Commit, Decision::Commit(commit))
     }
@@ -166,7 +151,7 @@ impl Coordinator {
     }
 }
 
-fn without(
+pub(crate) fn without(
     alloc: Global,
     awaited: &[ServerId],
     server: ServerId,

@@ -1,15 +1,12 @@
-//! A coordinator's readings of the master: where a round reads it, the master is asked once all have replied, and the
-//! round is judged with the reading.
-ghost use Rattle.std.specs.Prelude.{◌≡◌, None, Some, IfOk};
-ghost use Rattle.tp_coord.specs.declared.coordinator.Span.TheVariants as Span;
+//! A coordinator's readings of the master: after a query that was proved as it ran, after the votes, and where a round reads it.
+ghost use Rattle.std.specs.Prelude.{◌≡◌, IfOk};
 ghost use Rattle.tp_types.specs.Effect.{Gives};
-ghost use Rattle.tp_round.specs.Judge as judge;
 ghost use Rattle.tp_coord.specs.Row as row;
 
-use crate::coordinator::{Coordinator, Phase, Span};
+use crate::coordinator::{Coordinator, Phase};
 use std::alloc::Global;
 use std::mem;
-use tp_round::Round;
+use tp_scheme::Point;
 use tp_types::{
     Actor, Body, Letter, NewestReply, NoMemory, Place, ProbeRequest, Reaction, Reading, Scenario,
     TryClone, ignored, sent_alone,
@@ -52,11 +49,48 @@ impl Coordinator {
         if reply.turn != self.turn {
             return Ok(ignored(alloc));
         }
+        let reading = reading_of(alloc, sent, reply)?;
+        let reaction = self.on_reading(alloc, scenario, &reading);
+        drop(reading);
+        reaction
+    }
+
+    /// The master was read: after a query, after the votes, or after the replies of a round.
+    fn on_reading(
+        &mut self,
+        alloc: Global,
+        scenario: &Scenario,
+        reading: &Reading,
+    ) -> Result<Reaction, NoMemory>
+        ensures { IfOk result (λ reaction.
+            Gives (row.on_reading scenario.now self.old self.old.phase reading.now)
+            self.new reaction) }
+    {
+        match &self.phase {
+            Phase::Probing { query } => {
+                let at = Point::Read { query: *query };
+                self.proofs_read(alloc, scenario, at, reading)
+            }
+            Phase::VoteProbing => self.proofs_read(alloc, scenario, Point::VoteRead, reading),
+            _ => self.round_read(alloc, scenario, reading),
+        }
+    }
+
+    /// The master was read after the replies of a round.
+    fn round_read(
+        &mut self,
+        alloc: Global,
+        scenario: &Scenario,
+        reading: &Reading,
+    ) -> Result<Reaction, NoMemory>
+        ensures { IfOk result (λ reaction.
+            Gives (row.on_round_read scenario.now self.old self.old.phase reading.now)
+            self.new reaction) }
+    {
         match mem::replace(&mut self.phase, Phase::Idle) {
-            Phase::Reading {
-                span: Span::Commit,
-                round,
-            } => self.reads(alloc, scenario, sent, reply, round),
+            Phase::Reading { span, round } => {
+                self.judged(alloc, scenario, span, round, None, Some(reading))
+            }
             other => {
                 self.enters(other);
                 Ok(ignored(alloc))
@@ -64,26 +98,26 @@ impl Coordinator {
         }
     }
 
-    /// The master was read after the replies of a round.
-    fn reads(
+    /// Where a proof so far is older than the newest version the transaction aborts; else all of them are an instance,
+    /// and it goes on.
+    fn proofs_read(
         &mut self,
         alloc: Global,
         scenario: &Scenario,
-        sent: Place,
-        reply: &NewestReply,
-        round: Round,
+        at: Point,
+        reading: &Reading,
     ) -> Result<Reaction, NoMemory>
         ensures { IfOk result (λ reaction.
-            Gives
-            (row.on_judged scenario.now self.old Span.Commit round None
-            (Some (row.reading_of reply.now sent))
-            (judge.judge round (Some (row.reading_of reply.now sent))))
-            self.new reaction) }
+            Gives (row.on_proofs_read scenario.now self.old at reading.now) self.new reaction) }
     {
-        let reading = reading_of(alloc, sent, reply)?;
-        let reaction = self.judged(alloc, scenario, round, None, Some(&reading));
-        drop(reading);
-        reaction
+        if let Some(why) = self.gathered.older(reading) {
+            return self.aborts(alloc, why);
+        }
+        let Some(next) = self.move_made(scenario, at) else {
+            return Ok(ignored(alloc));
+        };
+        self.gathered.close(alloc, Some(reading.place))?;
+        self.makes(alloc, scenario, at, next, 0)
     }
 }
 

@@ -1,29 +1,28 @@
-//! A coordinator's rounds of validation: the authority is asked, then the servers are to prepare, and their votes are judged.
-ghost use Rattle.std.specs.Prelude.{◌≡◌, Option, Some, None, [], map, option_map, IfOk, OnOk};
+//! A coordinator's rounds of validation: the authority is asked, then the servers are to evaluate, and at commit to
+//! prepare, and their replies are judged.
+ghost use Rattle.std.specs.Prelude.{◌≡◌, Option, Some, None, [], filter, map, option_map, take, IfOk, OnOk};
 ghost use Rattle.std.specs.List.{find};
 ghost use Rattle.std.specs.Option.{option_copied};
 ghost use Rattle.tp_model.specs.Ids.{same_server};
-ghost use Rattle.tp_model.specs.Words.vote;
 ghost use Rattle.tp_coord.specs.declared.coordinator.Phase.TheVariants as Phase;
 ghost use Rattle.tp_coord.specs.declared.coordinator.Span.TheVariants as Span;
 ghost use Rattle.tp_round.specs.declared.round.Wanted.{Wanted};
 ghost use Rattle.tp_types.specs.Effect.{Gives};
-ghost use Rattle.tp_scheme.specs.declared.moves.Point.TheVariants as Point;
 ghost use Rattle.tp_round.specs.Judge as judge;
+ghost use Rattle.tp_round.specs.Replies as replies;
 ghost use Rattle.tp_coord.specs.Row as row;
 
 use crate::coordinator::{Coordinator, Phase, Span};
 use crate::decisions::denied_by;
-use crate::moves::{level_read, limit_of};
 use std::alloc::Global;
 use std::mem;
-use tp_model::VIEW_ROUNDS;
+use tp_model::has_query_at;
 use tp_round::{Judged, Round, Wanted};
-use tp_scheme::{Move, Point};
+use tp_scheme::Point;
 use tp_types::{
-    Actor, AdminId, AskRequest, Body, Cause, Letter, Level, List, No, NoMemory, OutOfRange, Place,
-    PrepareRequest, Reaction, Reading, Scenario, ServerId, Staple, TellReply, TryClone, Verdict,
-    Version, Vote, VoteReply, ignored, nothing, sent_alone,
+    Actor, AdminId, AskRequest, Body, Cause, Instance, Letter, List, NoMemory, Place,
+    PrepareRequest, Query, Reaction, Reading, Scenario, ServerId, Staple, TellReply, Transaction,
+    TryClone, ValidateRequest, Verdict, Version, ignored, nothing, sent_alone,
 };
 
 impl Coordinator {
@@ -36,28 +35,62 @@ impl Coordinator {
         ensures { IfOk result (λ reaction.
             Gives (row.asks self.old Span.Commit (row.commit_round scenario.now self.old)) self.new reaction) }
     {
-        let limit = self.limit_at(scenario);
-        let level = self.level_at(scenario);
-        let round = Round::start(alloc, self.servers.as_slice(), limit, level)?;
+        let round = self.round_of(alloc, scenario, self.servers.as_slice())?;
         self.asks(alloc, Span::Commit, round)
     }
 
-    fn level_at(&self, scenario: &Scenario) -> Level
-        ensures { result ≡ row.level_at scenario.now self.now }
+    /// A query ran, and all up to it are to be evaluated: the first round, of their servers.
+    pub(crate) fn validates(
+        &mut self,
+        alloc: Global,
+        scenario: &Scenario,
+        query: u32,
+    ) -> Result<Reaction, NoMemory>
+        ensures { IfOk result (λ reaction.
+            Gives
+            (row.asks self.old (Span.Validate query)
+            (row.validation_round scenario.now self.old query))
+            self.new reaction) }
     {
-        match scenario.txns.get(self.txn.0 as usize) {
-            None => Level::View,
-            Some(txn) => level_read(scenario, txn),
-        }
+        let servers = self.servers_upto(alloc, scenario, query)?;
+        let round = self.round_of(alloc, scenario, servers.as_slice())?;
+        self.asks(alloc, Span::Validate { query }, round)
     }
 
-    fn limit_at(&self, scenario: &Scenario) -> u32
-        ensures { result ≡ row.limit_at scenario.now self.now }
+    /// A first round of these servers.
+    fn round_of(
+        &self,
+        alloc: Global,
+        scenario: &Scenario,
+        servers: &[ServerId],
+    ) -> Result<Round, NoMemory>
+        ensures { IfOk result (λ round. round ≡ row.round_of scenario.now self.now servers.now) }
     {
-        match scenario.txns.get(self.txn.0 as usize) {
-            None => VIEW_ROUNDS,
-            Some(txn) => limit_of(scenario, txn),
-        }
+        let limit = self.limit_at(scenario);
+        Round::start(alloc, servers, limit, self.level_at(scenario))
+    }
+
+    /// Of the transaction's servers, those of its queries up to this one.
+    fn servers_upto(
+        &self,
+        alloc: Global,
+        scenario: &Scenario,
+        query: u32,
+    ) -> Result<List<ServerId>, NoMemory>
+        ensures { IfOk result (λ found. found ≡ row.servers_upto scenario.now self.now query) }
+    {
+        let Some(txn) = scenario.txns.get(self.txn.0 as usize) else {
+            return Ok(List::new(alloc));
+        };
+        let asked = queries_upto(txn, query);
+        let found: Vec<ServerId> = self
+            .servers
+            .as_slice()
+            .iter()
+            .copied()
+            .filter(|server| has_query_at(scenario, server.0, asked))
+            .collect(alloc)?;
+        Ok(List::from_vec(found))
     }
 
     /// Before each round the authority is asked.
@@ -94,49 +127,63 @@ impl Coordinator {
         }
     }
 
-    fn epoch_of(&self, server: ServerId) -> u64
+    pub(crate) fn epoch_of(&self, server: ServerId) -> u64
         ensures { result ≡ row.epoch_of self.now server }
     {
         self.epoch_told(server).unwrap_or(0)
     }
 
-    fn prepare_letter(
+    /// What a server of a round is asked: to evaluate the queries so far, or to prepare at commit.
+    fn round_letter(
         &self,
         alloc: Global,
+        span: Span,
         turn: u32,
         round: &Round,
         staple: &Staple,
         server: ServerId,
     ) -> Result<Letter, NoMemory>
         ensures { IfOk result (λ letter.
-            letter ≡ row.prepare_letter self.now turn round.now staple.now server) }
+            letter ≡ row.round_letter self.now span turn round.now staple.now server) }
     {
-        let prepare = PrepareRequest {
-            txn: self.txn,
-            turn,
-            epoch: self.epoch_of(server),
-            staple: Some(staple.try_clone(alloc)?),
-            want: want_for(alloc, round, server)?,
+        let staple = staple.try_clone(alloc)?;
+        let want = want_for(alloc, round, server)?;
+        let epoch = self.epoch_of(server);
+        let txn = self.txn;
+        let body = match span {
+            Span::Validate { .. } => Body::Validate(ValidateRequest {
+                txn,
+                turn,
+                epoch,
+                staple,
+                want,
+            }),
+            Span::Commit => Body::Prepare(PrepareRequest {
+                txn,
+                turn,
+                epoch,
+                staple: Some(staple),
+                want,
+            }),
         };
-        Ok(self.request(server, Body::Prepare(prepare)))
+        Ok(self.request(server, body))
     }
 
-    pub(crate) fn prepare_letters(
+    pub(crate) fn round_letters(
         &self,
         alloc: Global,
+        span: Span,
         turn: u32,
         round: &Round,
         staple: &Staple,
     ) -> Result<List<Letter>, NoMemory>
         ensures { IfOk result (λ letters.
-            letters
-            ≡ map (row.prepare_letter self.now turn round.now staple.now)
-            (row.awaited_in round.now)) }
+            letters ≡ row.round_letters self.now span turn round.now staple.now) }
     {
         let mut letters = List::new(alloc);
         for target in round.targets.as_slice() {
             if target.reply.is_none() {
-                let letter = self.prepare_letter(alloc, turn, round, staple, target.server)?;
+                let letter = self.round_letter(alloc, span, turn, round, staple, target.server)?;
                 letters.push(letter)?;
             }
         }
@@ -161,12 +208,9 @@ impl Coordinator {
             return self.sends_next(alloc, scenario, query, Some(staple));
         }
         match mem::replace(&mut self.phase, Phase::Idle) {
-            Phase::Asking {
-                span: Span::Commit,
-                round,
-            } => {
+            Phase::Asking { span, round } => {
                 let staple = staple_of(alloc, sent, tell)?;
-                self.prepares(alloc, Span::Commit, round, staple)
+                self.checks(alloc, span, round, staple)
             }
             other => {
                 self.enters(other);
@@ -175,7 +219,7 @@ impl Coordinator {
         }
     }
 
-    fn prepares(
+    fn checks(
         &mut self,
         alloc: Global,
         span: Span,
@@ -183,9 +227,9 @@ impl Coordinator {
         staple: Staple,
     ) -> Result<Reaction, NoMemory>
         ensures { IfOk result (λ reaction.
-            Gives (row.prepares self.old span round staple) self.new reaction) }
+            Gives (row.checks self.old span round staple) self.new reaction) }
     {
-        let letters = self.prepare_letters(alloc, self.next_turn(), &round, &staple)?;
+        let letters = self.round_letters(alloc, span, self.next_turn(), &round, &staple)?;
         self.awaits(Phase::Checking {
             span,
             round,
@@ -197,94 +241,10 @@ impl Coordinator {
         })
     }
 
-    pub(crate) fn on_vote(
-        &mut self,
-        alloc: Global,
-        scenario: &Scenario,
-        from: Actor,
-        reply: &VoteReply,
-    ) -> Result<Reaction, NoMemory>
-        ensures { IfOk result (λ reaction.
-            Gives (row.on_vote scenario.now self.old self.old.phase from reply.now)
-            self.new reaction) }
-    {
-        let Actor::Server(server) = from else {
-            return Ok(ignored(alloc));
-        };
-        if reply.turn != self.turn || !awaits_vote(&self.phase, server) {
-            return Ok(ignored(alloc));
-        }
-        match &reply.vote {
-            Vote::Yes(verdicts) => self.on_yes(alloc, scenario, server, verdicts),
-            Vote::No(why) => self.on_no(alloc, scenario, server, *why),
-        }
-    }
-
-    /// A vote YES of a server that is awaited comes into its round.
-    fn on_yes(
-        &mut self,
-        alloc: Global,
-        scenario: &Scenario,
-        server: ServerId,
-        verdicts: &List<Verdict>,
-    ) -> Result<Reaction, NoMemory>
-        ensures { IfOk result (λ reaction.
-            Gives
-            (row.vote_at scenario.now self.old self.old.phase server (vote.Yes verdicts.now))
-            self.new reaction) }
-    {
-        match mem::replace(&mut self.phase, Phase::Idle) {
-            Phase::Checking {
-                span: Span::Commit,
-                round,
-                staple,
-            } => self.voted(alloc, scenario, round, staple, server, verdicts),
-            other => {
-                self.enters(other);
-                Ok(ignored(alloc))
-            }
-        }
-    }
-
-    /// A vote NO of a server that is awaited ends the transaction at once.
-    fn on_no(
-        &mut self,
-        alloc: Global,
-        scenario: &Scenario,
-        server: ServerId,
-        why: No,
-    ) -> Result<Reaction, NoMemory>
-        ensures { IfOk result (λ reaction.
-            Gives (row.vote_at scenario.now self.old self.old.phase server (vote.No why))
-            self.new reaction) }
-    {
-        if !matches!(
-            self.phase,
-            Phase::Checking {
-                span: Span::Commit,
-                ..
-            }
-        ) {
-            return Ok(ignored(alloc));
-        }
-        match why {
-            No::Range { query, value } => self.aborts(
-                alloc,
-                Cause::No(OutOfRange {
-                    query,
-                    server,
-                    value,
-                }),
-            ),
-            No::Restarted => self.aborts(alloc, Cause::Restarted { server }),
-        }
-    }
-
     /// The round goes on to await what it awaits.
-    fn stays(&mut self, alloc: Global, round: Round, staple: Option<Staple>) -> Reaction
-        ensures { Gives (row.stays self.old Span.Commit round staple) self.new result }
+    fn stays(&mut self, alloc: Global, span: Span, round: Round, staple: Option<Staple>) -> Reaction
+        ensures { Gives (row.stays self.old span round staple) self.new result }
     {
-        let span = Span::Commit;
         self.enters(match staple {
             Some(staple) => Phase::Checking {
                 span,
@@ -296,12 +256,13 @@ impl Coordinator {
         nothing(alloc)
     }
 
-    /// A vote YES of a server that is awaited: once all have voted the master is read where the round reads it, and
-    /// else the round is judged.
-    fn voted(
+    /// A server that is awaited has replied: once all have, the master is read where the round reads it, and else the
+    /// round is judged.
+    pub(crate) fn replied(
         &mut self,
         alloc: Global,
         scenario: &Scenario,
+        span: Span,
         round: Round,
         staple: Staple,
         server: ServerId,
@@ -309,20 +270,19 @@ impl Coordinator {
     ) -> Result<Reaction, NoMemory>
         ensures { IfOk result (λ reaction.
             Gives
-            (row.on_reply scenario.now self.old Span.Commit
+            (row.on_reply scenario.now self.old span
             (judge.after_reply round server verdicts.now) staple)
             self.new reaction) }
     {
         let mut round = round;
         counts(alloc, &mut round, server, verdicts)?;
         if round.awaits_any() {
-            return Ok(self.stays(alloc, round, Some(staple)));
+            return Ok(self.stays(alloc, span, round, Some(staple)));
         }
         if round.reads {
-            let span = Span::Commit;
             return self.probes(alloc, Phase::Reading { span, round });
         }
-        self.judged(alloc, scenario, round, Some(staple), None)
+        self.judged(alloc, scenario, span, round, Some(staple), None)
     }
 
     /// What follows from the replies of a round, and from the reading of the master where there was one.
@@ -330,47 +290,74 @@ impl Coordinator {
         &mut self,
         alloc: Global,
         scenario: &Scenario,
+        span: Span,
         round: Round,
         staple: Option<Staple>,
         reading: Option<&Reading>,
     ) -> Result<Reaction, NoMemory>
         ensures { IfOk result (λ reaction.
             Gives
-            (row.on_judged scenario.now self.old Span.Commit round staple
+            (row.on_judged scenario.now self.old span round staple
             (option_copied reading.entry)
             (judge.judge round (option_copied reading.entry)))
             self.new reaction) }
     {
         let mut round = round;
         match round.judge(alloc, reading)? {
-            Judged::Waiting => Ok(self.stays(alloc, round, staple)),
+            Judged::Waiting => Ok(self.stays(alloc, span, round, staple)),
             Judged::Spent(mets) => self.aborts(alloc, Cause::Rounds(mets)),
-            Judged::Update(_) => self.asks(alloc, Span::Commit, round),
+            Judged::Update(_) => self.asks(alloc, span, round),
             Judged::False { verdict } => self.aborts(alloc, Cause::Denied(denied_by(&verdict))),
-            Judged::AllTrue => self.all_true(alloc, scenario, round, staple, reading),
+            Judged::AllTrue => {
+                let rounds = round.rounds();
+                let agreed = instance_of(alloc, &round, reading)?;
+                self.stays(alloc, span, round, staple);
+                self.agreed(alloc, scenario, span, agreed, rounds)
+            }
         }
     }
 
-    /// All servers have voted YES, and all proofs are true: the table says what follows.
-    fn all_true(
+    /// All proofs of a round are true, of one version each: they are an instance, and the transaction goes on.
+    fn agreed(
         &mut self,
         alloc: Global,
         scenario: &Scenario,
-        round: Round,
-        staple: Option<Staple>,
-        reading: Option<&Reading>,
+        span: Span,
+        agreed: Instance,
+        rounds: u32,
     ) -> Result<Reaction, NoMemory>
         ensures { IfOk result (λ reaction.
             Gives
-            (row.on_all_true self.old Span.Commit round staple (option_copied reading.entry)
-            (row.move_at scenario.now self.old Point.Voted))
+            (row.goes_on scenario.now self.old
+            (row.closes self.old agreed.reading agreed.proofs) (row.point_of span) rounds)
             self.new reaction) }
     {
-        match self.move_at(scenario, Point::Voted) {
-            Move::Decide => self.commits(alloc, &round, place_of(reading)),
-            _ => Ok(self.stays(alloc, round, staple)),
-        }
+        let at = point_of(span);
+        let Some(next) = self.move_made(scenario, at) else {
+            return Ok(ignored(alloc));
+        };
+        self.gathered.closes(agreed)?;
+        self.makes(alloc, scenario, at, next, rounds)
     }
+}
+
+/// The point that a round leads to.
+fn point_of(span: Span) -> Point
+    ensures { result ≡ row.point_of span }
+{
+    match span {
+        Span::Validate { query } => Point::Validated { query },
+        Span::Commit => Point::Voted,
+    }
+}
+
+/// The first queries of a transaction, up to this number.
+fn queries_upto(txn: &Transaction, number: u32) -> &[Query]
+    ensures { result.now ≡ take number txn.now.queries }
+{
+    let queries = txn.queries.as_slice();
+    let count = queries.len().min(number as usize);
+    &queries[..count]
 }
 
 /// A reply comes into its round.
@@ -387,11 +374,23 @@ fn counts(
     Ok(())
 }
 
-/// The place of a reading.
-fn place_of(reading: Option<&Reading>) -> Option<Place>
-    ensures { result ≡ option_map row.place_of (option_copied reading.entry) }
+/// The instance of a round's proofs, with the place of the reading after them if there was one.
+fn instance_of(
+    alloc: Global,
+    round: &Round,
+    reading: Option<&Reading>,
+) -> Result<Instance, NoMemory>
+    ensures { IfOk result (λ made.
+        made
+        ≡ record {
+          reading = option_map row.place_of (option_copied reading.entry);
+          proofs = replies.by_query (replies.proofs_in round.now.targets);
+        }) }
 {
-    reading.map(|read| read.place)
+    Ok(Instance {
+        reading: reading.map(|read| read.place),
+        proofs: round.proofs(alloc)?,
+    })
 }
 
 /// What the authority told, at the place where it was sent.
@@ -424,18 +423,5 @@ fn want_for(
     match named_for(round.named.as_slice(), server) {
         None => Ok(List::new(alloc)),
         Some(named) => named.want.try_clone(alloc),
-    }
-}
-
-fn awaits_vote(phase: &Phase, server: ServerId) -> bool
-    ensures { result ≡ row.awaits_vote phase.now server }
-{
-    match phase {
-        Phase::Checking {
-            span: Span::Commit,
-            round,
-            staple: _,
-        } => round.awaits(server),
-        _ => false,
     }
 }

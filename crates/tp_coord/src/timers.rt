@@ -4,9 +4,9 @@ ghost use Rattle.std.specs.Prelude.{◌≡◌, IfOk};
 ghost use Rattle.tp_types.specs.Effect.{Gives};
 ghost use Rattle.tp_coord.specs.Row as row;
 
-use crate::coordinator::{Coordinator, Phase, Span};
+use crate::coordinator::{Coordinator, Phase};
 use std::alloc::Global;
-use tp_types::{Letter, List, NoMemory, Reaction, Scenario, Staple, TryClone, both};
+use tp_types::{Letter, List, NoMemory, Reaction, Scenario, Staple};
 
 impl Coordinator {
     /// Sends the outstanding request again, to each from whom a reply is awaited. Before the submission, and when all servers
@@ -29,21 +29,21 @@ impl Coordinator {
             // nothing is outstanding before the submission
             Phase::Idle => Ok(List::new(alloc)),
             Phase::Querying { query, staple } => self.query_again(alloc, scenario, *query, staple),
-            Phase::Stapling { .. } | Phase::Asking { .. } => List::of_one(
-                alloc,
-                self.ask_letter(self.turn),
-            ),
+            Phase::Stapling { .. } | Phase::Asking { .. } => {
+                List::of_one(alloc, self.ask_letter(self.turn))
+            }
             Phase::Checking {
-                span: Span::Commit,
+                span,
                 round,
                 staple,
-            } => self.prepare_letters(alloc, self.turn, round, staple),
-            Phase::Reading { .. } => List::of_one(alloc, self.probe_letter(self.turn)),
+            } => self.round_letters(alloc, *span, self.turn, round, staple),
+            Phase::Probing { .. } | Phase::Reading { .. } | Phase::VoteProbing => {
+                List::of_one(alloc, self.probe_letter(self.turn))
+            }
+            Phase::Voting { awaited } => self.vote_letters(alloc, self.turn, awaited.as_slice()),
             Phase::Ending { outcome, awaited } => {
                 self.decide_letters(alloc, *outcome, awaited.as_slice())
             }
-            // the other phases are entered by no coordinator yet
-            _ => Ok(List::new(alloc)),
         }
     }
 
@@ -62,9 +62,7 @@ impl Coordinator {
         match self.home_of(scenario, number) {
             None => Ok(List::new(alloc)),
             Some(server) => {
-                let value = self.value_of(alloc, scenario, number);
-                let (value, staple) = both(value, staple.try_clone(alloc))?;
-                let letter = self.query_letter(self.turn, server, number, value, staple);
+                let letter = self.query_letter(alloc, scenario, self.turn, server, number, staple)?;
                 List::of_one(alloc, letter)
             }
         }

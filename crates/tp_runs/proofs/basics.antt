@@ -12,6 +12,7 @@ pub mod Levels
 pub mod LockCounts
 pub mod Locks
 pub mod Logs
+pub mod Passed
 pub mod Phases
 pub mod Rounds
 pub mod Servers

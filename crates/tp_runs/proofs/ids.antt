@@ -1,6 +1,5 @@
 -- All that mails, records and facts name exists.
 pub mod Acts
-pub mod Built
 pub mod Coordinator
 pub mod Crashes
 pub mod Queries

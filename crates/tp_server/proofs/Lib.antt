@@ -1,3 +1,4 @@
+pub mod GrantLemmas
 pub mod RightVerdicts
 pub mod Rows
 pub mod Tables

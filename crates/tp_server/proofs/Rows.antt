@@ -15,7 +15,7 @@ use Rattle.tp_model.specs.Words.answer
 use Rattle.tp_model.specs.Words.body
 use Rattle.tp_model.specs.Words.no
 use Rattle.tp_model.specs.Words.query
-use Rattle.tp_model.specs.Words.{Body, DecideRequest, Deed, DoneReply, Item, Letter, Mail, No, PrepareRequest, PushNotice, Query, QueryRequest, Scenario, ServerId, Settled, Staple, Transaction, TxnId, Verdict}
+use Rattle.tp_model.specs.Words.{Body, DecideRequest, Deed, AdminId, Answer, DoneReply, Item, Letter, Mail, Newer, No, PrepareRequest, PushNotice, Query, QueryRequest, Record, Scenario, ServerId, Settled, Staple, Transaction, TxnId, ValidateRequest, Verdict, Version}
 use Rattle.tp_types.proofs.EachLemmas.{by_cond, placed_emptied, placed_set, some_value}
 use Rattle.tp_server.proofs.Tables.{placed_same, set_twice, written_over}
 use Rattle.tp_model.specs.Deeds.{deed_of}
@@ -23,9 +23,9 @@ use Rattle.tp_types.specs.Each.{Each, EachPlaced}
 use Rattle.tp_server.specs.Values.{HasValue}
 use Rattle.tp_server.specs.declared.server.Ballot.{Ballot}
 use Rattle.tp_server.specs.declared.server.Entry.{Entry}
-use Rattle.tp_server.specs.Row.{ack_letter, after_asking, age_of, after_grants, answer_to, answers, answers_with, asked_query, asked_to_vote, asks, asks_query, asks_with, by_lock, closes, completes, ends, entry_after, entry_at, evaluates, followed_by, is_open, kept_by, learns, lock_answer, names_another_epoch, new_entry, no_letter, on_body, on_open_query, on_refused, on_settled_decide, on_settled_prepare, on_unlost_query, refused_as, refuses, restarts, after_grant, resumes_at, resumes_query, resumes_waiting, resumes_with, reply_letter, ran_as, runs, runs_by, server_row, settled_as, taken_from, value_of_run, verdict_at, votes_at, votes_in_range, votes_on, votes_with, waiting_at, waits, with_answer, with_entry, yes_letter}
+use Rattle.tp_server.specs.Row.{ack_letter, after_asking, after_grant, after_grants, after_run, age_of, answer_to, answers, answers_with, asked_query, asked_to_show, asked_to_vote, asks, asks_query, asks_with, by_lock, closes, completes, ends, entry_after, entry_at, evaluates, followed_by, is_open, kept_by, learns, lock_answer, names_another_epoch, new_entry, newer_known, no_letter, on_body, on_open_query, on_refused, on_settled_decide, on_settled_prepare, on_unlost_query, on_validate, pinned, ran_as, refused_as, refuses, reply_letter, restarts, resumes_at, resumes_query, resumes_waiting, resumes_with, runs, runs_at, runs_by, server_row, settled_as, shows, shows_on, shows_with, taken_from, value_of_run, verdict_at, votes, votes_at, votes_in_range, votes_on, votes_with, waiting_at, waits, with_answer, with_entry, yes_letter}
 use Rattle.tp_server.specs.State.{Server}
-use Rattle.tp_server.specs.Verdicts.{with_wants, version_known}
+use Rattle.tp_server.specs.Verdicts.{admin_of, verdicts_on, version_known, with_pin, with_wants}
 use Rattle.tp_store.specs.Contents.{Contents}
 use Rattle.tp_store.specs.Rule.{first_outside_in, read_in}
 
@@ -50,18 +50,20 @@ pub record IsAsking (sc : Scenario) (s : Server) (mail : Mail) (q : QueryRequest
   pub said_is : mail.letter.body ≡ body.Query q
   pub unsettled : is_open s q.txn ≡ true
   pub place : IsFirstHere s mail.sent q entry ⊎ IsFurther s q entry
-  pub unpinned : is_none q.pin ≡ true
   pub asked_is : asked_query sc q ≡ Some query
   pub value_is : value_of_run s q query ≡ Some value
 
--- a query has its lock, and is to run: it was asked without a staple, or its proof is this and true
+-- a query has its lock, and is to run: the server knows no newer version than the pinned one, which it has learnt; and the query was asked
+-- without a staple, or its proof is this and true
 pub record IsRunning (sc : Scenario) (s : Server) (q : QueryRequest) (deed : Deed) (proof : Option Verdict) : Type 0 where
-  pub proof_is : verdict_at sc s q deed ≡ proof
+  pub none_newer : newer_known s (admin_of sc deed.item) q.pin ≡ None
+  pub proof_is : verdict_at sc (pinned sc s q deed) q deed ≡ proof
   pub holds : IfSome proof (λ (verdict : Verdict). is_none verdict.rule ≡ false)
 
 -- its proof is this and false
 pub record IsDenied (sc : Scenario) (s : Server) (q : QueryRequest) (deed : Deed) (verdict : Verdict) : Type 0 where
-  pub proof_is : verdict_at sc s q deed ≡ Some verdict
+  pub none_newer : newer_known s (admin_of sc deed.item) q.pin ≡ None
+  pub proof_is : verdict_at sc (pinned sc s q deed) q deed ≡ Some verdict
   pub fails : is_none verdict.rule ≡ true
 
 -- the first vote on an entry, which wrote no value outside its item's range
@@ -75,15 +77,34 @@ pub record IsLaterVote (p : PrepareRequest) (entry : Entry) : Type 0 where
   pub ballot_is : entry.ballot ≡ Some cast
   pub later : cast.turn < p.turn
 
--- a request to prepare an entry that may be voted on, of a transaction of the scenario
-pub record IsVote (sc : Scenario) (s : Server) (mail : Mail) (p : PrepareRequest) (entry : Entry) (staple : Staple) (txn : Transaction) : Type 0 where
+-- the verdicts of a vote: with a staple those on what a transaction of the scenario did here, and none without one
+pub data IsEvaluated (sc : Scenario) (s : Server) (p : PrepareRequest) (entry : Entry) : List Verdict → Type 0 where
+  Stapled : (staple : Staple) (txn : Transaction) → p.staple ≡ Some staple → slice_get sc.txns p.txn.0 ≡ Some txn → IsEvaluated sc s p entry (verdicts_on sc (with_wants s p.want) txn staple p.want entry.deeds)
+  Unstapled : p.staple ≡ None → IsEvaluated sc s p entry []
+
+-- a request to prepare an entry that may be voted on
+pub record IsVote (sc : Scenario) (s : Server) (mail : Mail) (p : PrepareRequest) (entry : Entry) (verdicts : List Verdict) : Type 0 where
   pub said_is : mail.letter.body ≡ body.Prepare p
   pub unsettled : is_open s p.txn ≡ true
   pub found : entry_at s p.txn ≡ Some entry
   pub same_epoch : (entry.epoch == p.epoch) ≡ true
   pub place : IsFirstVote s p entry ⊎ IsLaterVote p entry
-  pub stapled : p.staple ≡ Some staple
-  pub declared : slice_get sc.txns p.txn.0 ≡ Some txn
+  pub evaluated : IsEvaluated sc s p entry verdicts
+
+-- a request to evaluate what a transaction of the scenario did here, on which nothing was voted
+pub record IsValidation (sc : Scenario) (s : Server) (mail : Mail) (v : ValidateRequest) (entry : Entry) (txn : Transaction) : Type 0 where
+  pub said_is : mail.letter.body ≡ body.Validate v
+  pub unsettled : is_open s v.txn ≡ true
+  pub found : entry_at s v.txn ≡ Some entry
+  pub unvoted : is_some entry.ballot ≡ false
+  pub same_epoch : (entry.epoch == v.epoch) ≡ true
+  pub declared : slice_get sc.txns v.txn.0 ≡ Some txn
+
+-- such a request that names an epoch which no entry of the transaction has
+pub record IsLostValidation (s : Server) (mail : Mail) (v : ValidateRequest) : Type 0 where
+  pub said_is : mail.letter.body ≡ body.Validate v
+  pub unsettled : is_open s v.txn ≡ true
+  pub elsewhere : (entry : Entry) → entry_at s v.txn ≡ Some entry → entry.epoch ≡ v.epoch → ⊥
 
 -- a request to prepare that was voted on
 pub record IsVoteAgain (s : Server) (mail : Mail) (p : PrepareRequest) (entry : Entry) (cast : Ballot) : Type 0 where
@@ -190,9 +211,13 @@ pub record IsResumed (sc : Scenario) (at : ServerId) (s : Server) (grant : Grant
 abbrev pub resuming : Server → QueryRequest → Query → Entry → ℤ → Option Verdict → Effect Server
 resuming s q query entry value proof = completes s q query (unwaiting entry) (deed_of q.query query value) proof
 
--- where its proof is false
-abbrev pub denying : Server → QueryRequest → Entry → Verdict → Effect Server
-denying s q entry verdict = answers_with s q (unwaiting entry) (answer.Denied verdict)
+-- where it is given an answer that ends its transaction
+abbrev pub refusing : Server → QueryRequest → Entry → Answer → Effect Server
+refusing s q entry given = answers_with s q (unwaiting entry) given
+
+-- an effect whose server has learnt this version as well, if it is given
+abbrev pub with_learnt : Effect Server → AdminId → Option Version → Effect Server
+with_learnt effect admin pin = record effect { state = with_pin effect.state admin pin }
 
 -- an effect with other locks
 abbrev pub with_locks : Effect Server → Table → Effect Server
@@ -202,15 +227,19 @@ with_locks effect locks = record effect { state = record effect.state { locks = 
 pub record LockCases (sc : Scenario) (s : Server) (mail : Mail) (P : Effect Server → Type 0) : Type 0 where
   pub ignored : P (ignores s)
   pub ran : (q : QueryRequest) (query : Query) (entry : Entry) (value : ℤ) (proof : Option Verdict) → IsAsking sc s mail q query entry value → lock_answer s q query entry ≡ asked.Granted
-      → IsRunning sc s q (deed_of q.query query value) proof → P (completes (after_asking s q query entry) q query entry (deed_of q.query query value) proof)
+      → IsRunning sc s q (deed_of q.query query value) proof → P (completes (pinned sc (after_asking s q query entry) q (deed_of q.query query value)) q query entry (deed_of q.query query value) proof)
   pub denied : (q : QueryRequest) (query : Query) (entry : Entry) (value : ℤ) (verdict : Verdict) → IsAsking sc s mail q query entry value → lock_answer s q query entry ≡ asked.Granted
-      → IsDenied sc s q (deed_of q.query query value) verdict → P (answers_with (after_asking s q query entry) q entry (answer.Denied verdict))
+      → IsDenied sc s q (deed_of q.query query value) verdict → P (answers_with (pinned sc (after_asking s q query entry) q (deed_of q.query query value)) q entry (answer.Denied verdict))
+  pub outdated : (q : QueryRequest) (query : Query) (entry : Entry) (value : ℤ) (newer : Newer) → IsAsking sc s mail q query entry value → lock_answer s q query entry ≡ asked.Granted
+      → newer_known s (admin_of sc (item_of query)) q.pin ≡ Some newer → P (answers_with (after_asking s q query entry) q entry (answer.Newer newer))
   pub waited : (q : QueryRequest) (query : Query) (entry : Entry) (value : ℤ) → IsAsking sc s mail q query entry value → lock_answer s q query entry ≡ asked.Waits → P (waits (after_asking s q query entry) q entry)
   pub died : (q : QueryRequest) (query : Query) (entry : Entry) (value : ℤ) (other : TxnId) → IsAsking sc s mail q query entry value → lock_answer s q query entry ≡ asked.Dies other
       → P (answers_with (after_asking s q query entry) q entry (answer.Died other))
   pub restarted : (q : QueryRequest) → IsLost s mail q → P (restarts s q)
   pub answered : (q : QueryRequest) (entry : Entry) (given : DoneReply) → IsAnswered s mail q entry given → P (answers s q.txn given)
-  pub voted : (p : PrepareRequest) (entry : Entry) (staple : Staple) (txn : Transaction) → IsVote sc s mail p entry staple txn → P (votes_on sc (with_wants s p.want) p entry staple txn)
+  pub voted : (p : PrepareRequest) (entry : Entry) (verdicts : List Verdict) → IsVote sc s mail p entry verdicts → P (votes (with_wants s p.want) p verdicts entry)
+  pub shown : (v : ValidateRequest) (entry : Entry) (txn : Transaction) → IsValidation sc s mail v entry txn → P (shows_on sc (with_wants s v.want) v entry txn)
+  pub lost_verdicts : (v : ValidateRequest) → IsLostValidation s mail v → P (shows s v None)
   pub voted_again : (p : PrepareRequest) (entry : Entry) (cast : Ballot) → IsVoteAgain s mail p entry cast → P (sends s (yes_letter s p.txn cast ∷ []))
   pub refused : (p : PrepareRequest) (entry : Entry) (number : ℕ) (value : ℤ) → IsRefusal s mail p entry number value → P (closes s (refused_as p (no.Range number value)) (no_letter s p (no.Range number value)))
   pub lost : (p : PrepareRequest) → IsLostVote s mail p → P (closes s (refused_as p no.Restarted) (no_letter s p no.Restarted))
@@ -222,24 +251,34 @@ pub record LockCases (sc : Scenario) (s : Server) (mail : Mail) (P : Effect Serv
   pub passed : (effect : Effect Server) (grant : Grant) → first_grant effect.state.locks ≡ Some grant → waiting_at effect.state grant.owner ≡ None → P effect → P (with_locks effect (without_grant effect.state.locks))
   -- a grant is taken, and what waited for it runs
   pub resumed : (effect : Effect Server) (grant : Grant) (q : QueryRequest) (query : Query) (entry : Entry) (value : ℤ) (proof : Option Verdict) → IsResumed sc s.server effect.state grant q query entry value
-      → IsRunning sc effect.state q (deed_of q.query query value) proof → P effect → P (with_locks (followed_by effect (resuming effect.state q query entry value proof)) (without_grant effect.state.locks))
+      → IsRunning sc effect.state q (deed_of q.query query value) proof → P effect
+      → P (with_locks (followed_by effect (resuming (pinned sc effect.state q (deed_of q.query query value)) q query entry value proof)) (without_grant effect.state.locks))
   -- a grant is taken, and the proof of what waited for it is false
   pub resumed_denied : (effect : Effect Server) (grant : Grant) (q : QueryRequest) (query : Query) (entry : Entry) (value : ℤ) (verdict : Verdict) → IsResumed sc s.server effect.state grant q query entry value
-      → IsDenied sc effect.state q (deed_of q.query query value) verdict → P effect → P (with_locks (followed_by effect (denying effect.state q entry verdict)) (without_grant effect.state.locks))
+      → IsDenied sc effect.state q (deed_of q.query query value) verdict → P effect
+      → P (with_locks (followed_by effect (refusing (pinned sc effect.state q (deed_of q.query query value)) q entry (answer.Denied verdict))) (without_grant effect.state.locks))
+  -- a grant is taken, and the server knows a newer version than what waited for it pins
+  pub resumed_outdated : (effect : Effect Server) (grant : Grant) (q : QueryRequest) (query : Query) (entry : Entry) (value : ℤ) (newer : Newer) → IsResumed sc s.server effect.state grant q query entry value
+      → newer_known effect.state (admin_of sc (item_of query)) q.pin ≡ Some newer → P effect → P (with_locks (followed_by effect (refusing effect.state q entry (answer.Newer newer))) (without_grant effect.state.locks))
 
--- what is to be shown of the outcomes of a receipt where P says nothing of locks
+-- what is to be shown of the outcomes of a receipt where P says nothing of locks, nor of a version that is learnt as a query pins it
 pub record ServerCases (sc : Scenario) (s : Server) (mail : Mail) (P : Effect Server → Type 0) : Type 0 where
   pub relocked : (effect : Effect Server) (locks : Table) → P effect → P (with_locks effect locks)
+  pub relearnt : (effect : Effect Server) (admin : AdminId) (pin : Option Version) → P effect → P (with_learnt effect admin pin)
   pub ignored : P (ignores s)
   pub ran : (q : QueryRequest) (query : Query) (entry : Entry) (value : ℤ) (proof : Option Verdict) → IsAsking sc s mail q query entry value → IsRunning sc s q (deed_of q.query query value) proof
       → P (completes s q query entry (deed_of q.query query value) proof)
   pub denied : (q : QueryRequest) (query : Query) (entry : Entry) (value : ℤ) (verdict : Verdict) → IsAsking sc s mail q query entry value → IsDenied sc s q (deed_of q.query query value) verdict
       → P (answers_with s q entry (answer.Denied verdict))
+  pub outdated : (q : QueryRequest) (query : Query) (entry : Entry) (value : ℤ) (newer : Newer) → IsAsking sc s mail q query entry value → newer_known s (admin_of sc (item_of query)) q.pin ≡ Some newer
+      → P (answers_with s q entry (answer.Newer newer))
   pub waited : (q : QueryRequest) (query : Query) (entry : Entry) (value : ℤ) → IsAsking sc s mail q query entry value → P (waits s q entry)
   pub died : (q : QueryRequest) (query : Query) (entry : Entry) (value : ℤ) (other : TxnId) → IsAsking sc s mail q query entry value → lock_answer s q query entry ≡ asked.Dies other → P (answers_with s q entry (answer.Died other))
   pub restarted : (q : QueryRequest) → IsLost s mail q → P (restarts s q)
   pub answered : (q : QueryRequest) (entry : Entry) (given : DoneReply) → IsAnswered s mail q entry given → P (answers s q.txn given)
-  pub voted : (p : PrepareRequest) (entry : Entry) (staple : Staple) (txn : Transaction) → IsVote sc s mail p entry staple txn → P (votes_on sc (with_wants s p.want) p entry staple txn)
+  pub voted : (p : PrepareRequest) (entry : Entry) (verdicts : List Verdict) → IsVote sc s mail p entry verdicts → P (votes (with_wants s p.want) p verdicts entry)
+  pub shown : (v : ValidateRequest) (entry : Entry) (txn : Transaction) → IsValidation sc s mail v entry txn → P (shows_on sc (with_wants s v.want) v entry txn)
+  pub lost_verdicts : (v : ValidateRequest) → IsLostValidation s mail v → P (shows s v None)
   pub voted_again : (p : PrepareRequest) (entry : Entry) (cast : Ballot) → IsVoteAgain s mail p entry cast → P (sends s (yes_letter s p.txn cast ∷ []))
   pub refused : (p : PrepareRequest) (entry : Entry) (number : ℕ) (value : ℤ) → IsRefusal s mail p entry number value → P (closes s (refused_as p (no.Range number value)) (no_letter s p (no.Range number value)))
   pub lost : (p : PrepareRequest) → IsLostVote s mail p → P (closes s (refused_as p no.Restarted) (no_letter s p no.Restarted))
@@ -252,20 +291,42 @@ pub record ServerCases (sc : Scenario) (s : Server) (mail : Mail) (P : Effect Se
       → IsRunning sc effect.state q (deed_of q.query query value) proof → P effect → P (followed_by effect (resuming effect.state q query entry value proof))
   -- the proof of what waited is false
   pub resumed_denied : (effect : Effect Server) (grant : Grant) (q : QueryRequest) (query : Query) (entry : Entry) (value : ℤ) (verdict : Verdict) → IsResumed sc s.server effect.state grant q query entry value
-      → IsDenied sc effect.state q (deed_of q.query query value) verdict → P effect → P (followed_by effect (denying effect.state q entry verdict))
+      → IsDenied sc effect.state q (deed_of q.query query value) verdict → P effect → P (followed_by effect (refusing effect.state q entry (answer.Denied verdict)))
+  -- the server knows a newer version than what waited pins
+  pub resumed_outdated : (effect : Effect Server) (grant : Grant) (q : QueryRequest) (query : Query) (entry : Entry) (value : ℤ) (newer : Newer) → IsResumed sc s.server effect.state grant q query entry value
+      → newer_known effect.state (admin_of sc (item_of query)) q.pin ≡ Some newer → P effect → P (followed_by effect (refusing effect.state q entry (answer.Newer newer)))
+
+-- a query that ran at a server which has learnt a version is one that ran, at a server that then learns it
+run_learnt : (P : Effect Server → Type 0) (s : Server) (admin : AdminId) (pin : Option Version) (q : QueryRequest) (query : Query) (entry : Entry) (deed : Deed) (proof : Option Verdict) (letters : List Letter) (append : Option Record)
+    → P (with_learnt (record { state = after_run s q query entry deed proof; reaction = record { append = append; letters = letters } }) admin pin)
+    → P (record { state = after_run (with_pin s admin pin) q query entry deed proof; reaction = record { append = append; letters = letters } })
+run_learnt P s admin None q (query.Read item into) entry deed proof letters append h = h
+run_learnt P s admin None q (query.Write item expr) entry deed proof letters append h = h
+run_learnt P s admin (Some version) q (query.Read item into) entry deed proof letters append h = h
+run_learnt P s admin (Some version) q (query.Write item expr) entry deed proof letters append h = h
 
 -- where P says nothing of locks
 lock_cases : (sc : Scenario) (s : Server) (mail : Mail) (P : Effect Server → Type 0) → ServerCases sc s mail P → LockCases sc s mail P
 lock_cases sc s mail P cases =
     record {
       ignored = cases.ignored;
-      ran = λ q query entry value proof k granted r. cases.relocked (completes s q query entry (deed_of q.query query value) proof) (after_asking s q query entry).locks (cases.ran q query entry value proof k r);
-      denied = λ q query entry value verdict k granted d. cases.relocked (answers_with s q entry (answer.Denied verdict)) (after_asking s q query entry).locks (cases.denied q query entry value verdict k d);
+      ran = λ q query entry value proof k granted running.
+          let deed = deed_of q.query query value in
+          let asked_here = after_asking s q query entry in
+          run_learnt P asked_here (admin_of sc deed.item) q.pin q query entry deed proof (reply_letter s q entry (ran_as deed proof) ∷ []) None
+          (cases.relearnt (completes asked_here q query entry deed proof) (admin_of sc deed.item) q.pin (cases.relocked (completes s q query entry deed proof) asked_here.locks (cases.ran q query entry value proof k running)));
+      denied = λ q query entry value verdict k granted false_one.
+          let deed = deed_of q.query query value in
+          cases.relearnt (answers_with (after_asking s q query entry) q entry (answer.Denied verdict)) (admin_of sc deed.item) q.pin
+          (cases.relocked (answers_with s q entry (answer.Denied verdict)) (after_asking s q query entry).locks (cases.denied q query entry value verdict k false_one));
+      outdated = λ q query entry value newer k granted known. cases.relocked (answers_with s q entry (answer.Newer newer)) (after_asking s q query entry).locks (cases.outdated q query entry value newer k known);
       waited = λ q query entry value k waiting. cases.relocked (waits s q entry) (after_asking s q query entry).locks (cases.waited q query entry value k);
       died = λ q query entry value other k dying. cases.relocked (answers_with s q entry (answer.Died other)) (after_asking s q query entry).locks (cases.died q query entry value other k dying);
       restarted = cases.restarted;
       answered = cases.answered;
       voted = cases.voted;
+      shown = cases.shown;
+      lost_verdicts = cases.lost_verdicts;
       voted_again = cases.voted_again;
       refused = cases.refused;
       lost = cases.lost;
@@ -274,10 +335,19 @@ lock_cases sc s mail P cases =
       acknowledged = cases.acknowledged;
       pushed = cases.pushed;
       passed = λ effect grant first nobody h. cases.relocked effect (without_grant effect.state.locks) h;
-      resumed = λ effect grant q query entry value proof k r h.
-          cases.relocked (followed_by effect (resuming effect.state q query entry value proof)) (without_grant effect.state.locks) (cases.resumed effect grant q query entry value proof k r h);
-      resumed_denied = λ effect grant q query entry value verdict k d h.
-          cases.relocked (followed_by effect (denying effect.state q entry verdict)) (without_grant effect.state.locks) (cases.resumed_denied effect grant q query entry value verdict k d h);
+      resumed = λ effect grant q query entry value proof k running h.
+          let deed = deed_of q.query query value in
+          let ran : P (with_learnt (followed_by effect (resuming effect.state q query entry value proof)) (admin_of sc deed.item) q.pin) =
+          cases.relearnt (followed_by effect (resuming effect.state q query entry value proof)) (admin_of sc deed.item) q.pin (cases.resumed effect grant q query entry value proof k running h) in
+          let now : P (followed_by effect (resuming (pinned sc effect.state q deed) q query entry value proof)) =
+          run_learnt P effect.state (admin_of sc deed.item) q.pin q query (unwaiting entry) deed proof (followed_by effect (resuming effect.state q query entry value proof)).reaction.letters effect.reaction.append ran in
+          cases.relocked (followed_by effect (resuming (pinned sc effect.state q deed) q query entry value proof)) (without_grant effect.state.locks) now;
+      resumed_denied = λ effect grant q query entry value verdict k false_one h.
+          let deed = deed_of q.query query value in
+          cases.relocked (followed_by effect (refusing (pinned sc effect.state q deed) q entry (answer.Denied verdict))) (without_grant effect.state.locks)
+          (cases.relearnt (followed_by effect (refusing effect.state q entry (answer.Denied verdict))) (admin_of sc deed.item) q.pin (cases.resumed_denied effect grant q query entry value verdict k false_one h));
+      resumed_outdated = λ effect grant q query entry value newer k known h.
+          cases.relocked (followed_by effect (refusing effect.state q entry (answer.Newer newer))) (without_grant effect.state.locks) (cases.resumed_outdated effect grant q query entry value newer k known h);
     }
 
 -- ---- grants
@@ -334,31 +404,50 @@ noted_twice sc at P grants effect q entry new store letter h =
 -- what waited runs
 resumed_by : (sc : Scenario) (s : Server) (mail : Mail) (P : Effect Server → Type 0) → LockCases sc s mail P → (effect : Effect Server) (grant : Grant) (grants : List Grant) (q : QueryRequest) (query : Query) (entry : Entry) (value : ℤ)
     (proof : Option Verdict) → Taking sc s.server P (grant ∷ grants) effect → IsResumed sc s.server effect.state grant q query entry value → IsRunning sc effect.state q (deed_of q.query query value) proof
-    → Taking sc s.server P grants (followed_by effect (completes (resumable effect.state q entry) q query (unwaiting entry) (deed_of q.query query value) proof))
-resumed_by sc s mail P cases effect grant grants q query entry value proof h k r =
+    → Taking sc s.server P grants (followed_by effect (completes (pinned sc (resumable effect.state q entry) q (deed_of q.query query value)) q query (unwaiting entry) (deed_of q.query query value) proof))
+resumed_by sc s mail P cases effect grant grants q query entry value proof h k running =
     let deed = deed_of q.query query value in
     let new = entry_after q (unwaiting entry) deed proof in
-    noted_twice sc s.server P grants effect q entry new (kept_by effect.state.store q query deed.value) (reply_letter effect.state q (unwaiting entry) (ran_as deed proof))
-    (record { holds = cases.resumed effect grant q query entry value proof k r h.holds; server_is = h.server_is; waits = placed_set (WaitsRightly sc effect.state.server) effect.state.entries q.txn.0 new h.waits tt; left = ap (drop 1) h.left })
+    noted_twice sc s.server P grants effect q entry new (kept_by (pinned sc effect.state q deed).store q query deed.value) (reply_letter effect.state q (unwaiting entry) (ran_as deed proof))
+    (record { holds = cases.resumed effect grant q query entry value proof k running h.holds; server_is = h.server_is; waits = placed_set (WaitsRightly sc effect.state.server) effect.state.entries q.txn.0 new h.waits tt; left = ap (drop 1) h.left })
 
--- the proof of what waited is false
+-- its proof is false
 denied_by : (sc : Scenario) (s : Server) (mail : Mail) (P : Effect Server → Type 0) → LockCases sc s mail P → (effect : Effect Server) (grant : Grant) (grants : List Grant) (q : QueryRequest) (query : Query) (entry : Entry) (value : ℤ)
     (verdict : Verdict) → Taking sc s.server P (grant ∷ grants) effect → IsResumed sc s.server effect.state grant q query entry value → IsDenied sc effect.state q (deed_of q.query query value) verdict
-    → Taking sc s.server P grants (followed_by effect (answers_with (resumable effect.state q entry) q (unwaiting entry) (answer.Denied verdict)))
-denied_by sc s mail P cases effect grant grants q query entry value verdict h k d =
+    → Taking sc s.server P grants (followed_by effect (answers_with (pinned sc (resumable effect.state q entry) q (deed_of q.query query value)) q (unwaiting entry) (answer.Denied verdict)))
+denied_by sc s mail P cases effect grant grants q query entry value verdict h k false_one =
+    let deed = deed_of q.query query value in
     let new = with_answer q (unwaiting entry) (answer.Denied verdict) in
-    noted_twice sc s.server P grants effect q entry new effect.state.store (reply_letter effect.state q (unwaiting entry) (answer.Denied verdict))
-    (record { holds = cases.resumed_denied effect grant q query entry value verdict k d h.holds; server_is = h.server_is; waits = placed_set (WaitsRightly sc effect.state.server) effect.state.entries q.txn.0 new h.waits tt; left = ap (drop 1) h.left })
+    noted_twice sc s.server P grants effect q entry new (pinned sc effect.state q deed).store (reply_letter effect.state q (unwaiting entry) (answer.Denied verdict))
+    (record { holds = cases.resumed_denied effect grant q query entry value verdict k false_one h.holds; server_is = h.server_is; waits = placed_set (WaitsRightly sc effect.state.server) effect.state.entries q.txn.0 new h.waits tt; left = ap (drop 1) h.left })
+
+-- or its server knows a newer version than it pins
+outdated_by : (sc : Scenario) (s : Server) (mail : Mail) (P : Effect Server → Type 0) → LockCases sc s mail P → (effect : Effect Server) (grant : Grant) (grants : List Grant) (q : QueryRequest) (query : Query) (entry : Entry) (value : ℤ)
+    (newer : Newer) → Taking sc s.server P (grant ∷ grants) effect → IsResumed sc s.server effect.state grant q query entry value → newer_known effect.state (admin_of sc (item_of query)) q.pin ≡ Some newer
+    → Taking sc s.server P grants (followed_by effect (answers_with (resumable effect.state q entry) q (unwaiting entry) (answer.Newer newer)))
+outdated_by sc s mail P cases effect grant grants q query entry value newer h k known =
+    let new = with_answer q (unwaiting entry) (answer.Newer newer) in
+    noted_twice sc s.server P grants effect q entry new effect.state.store (reply_letter effect.state q (unwaiting entry) (answer.Newer newer))
+    (record { holds = cases.resumed_outdated effect grant q query entry value newer k known h.holds; server_is = h.server_is; waits = placed_set (WaitsRightly sc effect.state.server) effect.state.entries q.txn.0 new h.waits tt; left = ap (drop 1) h.left })
 
 -- by the proof of what waited, if it has one
 proved_by : (sc : Scenario) (s : Server) (mail : Mail) (P : Effect Server → Type 0) → LockCases sc s mail P → (effect : Effect Server) (grant : Grant) (grants : List Grant) (q : QueryRequest) (query : Query) (entry : Entry) (value : ℤ)
-    (proof : Option Verdict) → Taking sc s.server P (grant ∷ grants) effect → IsResumed sc s.server effect.state grant q query entry value → verdict_at sc effect.state q (deed_of q.query query value) ≡ proof
-    → Taking sc s.server P grants (followed_by effect (runs_by (resumable effect.state q entry) q query (unwaiting entry) (deed_of q.query query value) proof))
-proved_by sc s mail P cases effect grant grants q query entry value None h k v = resumed_by sc s mail P cases effect grant grants q query entry value None h k (record { proof_is = v; holds = tt })
-proved_by sc s mail P cases effect grant grants q query entry value (Some verdict) h k v =
+    (proof : Option Verdict) → Taking sc s.server P (grant ∷ grants) effect → IsResumed sc s.server effect.state grant q query entry value → newer_known effect.state (admin_of sc (item_of query)) q.pin ≡ None
+    → verdict_at sc (pinned sc effect.state q (deed_of q.query query value)) q (deed_of q.query query value) ≡ proof
+    → Taking sc s.server P grants (followed_by effect (runs_by (pinned sc (resumable effect.state q entry) q (deed_of q.query query value)) q query (unwaiting entry) (deed_of q.query query value) proof))
+proved_by sc s mail P cases effect grant grants q query entry value None h k n v = resumed_by sc s mail P cases effect grant grants q query entry value None h k (record { none_newer = n; proof_is = v; holds = tt })
+proved_by sc s mail P cases effect grant grants q query entry value (Some verdict) h k n v =
     by_cond (λ (further : Effect Server). Taking sc s.server P grants (followed_by effect further)) (is_none verdict.rule)
-    (λ fails. denied_by sc s mail P cases effect grant grants q query entry value verdict h k (record { proof_is = v; fails = fails }))
-    (λ holds. resumed_by sc s mail P cases effect grant grants q query entry value (Some verdict) h k (record { proof_is = v; holds = holds }))
+    (λ fails. denied_by sc s mail P cases effect grant grants q query entry value verdict h k (record { none_newer = n; proof_is = v; fails = fails }))
+    (λ holds. resumed_by sc s mail P cases effect grant grants q query entry value (Some verdict) h k (record { none_newer = n; proof_is = v; holds = holds }))
+
+-- by what its server knows, where it pins a version
+known_by : (sc : Scenario) (s : Server) (mail : Mail) (P : Effect Server → Type 0) → LockCases sc s mail P → (effect : Effect Server) (grant : Grant) (grants : List Grant) (q : QueryRequest) (query : Query) (entry : Entry) (value : ℤ)
+    (newer : Option Newer) → Taking sc s.server P (grant ∷ grants) effect → IsResumed sc s.server effect.state grant q query entry value → newer_known effect.state (admin_of sc (item_of query)) q.pin ≡ newer
+    → Taking sc s.server P grants (followed_by effect (runs_at sc (resumable effect.state q entry) q query (unwaiting entry) (deed_of q.query query value) newer))
+known_by sc s mail P cases effect grant grants q query entry value (Some newer) h k known = outdated_by sc s mail P cases effect grant grants q query entry value newer h k known
+known_by sc s mail P cases effect grant grants q query entry value None h k known =
+    proved_by sc s mail P cases effect grant grants q query entry value (verdict_at sc (pinned sc effect.state q (deed_of q.query query value)) q (deed_of q.query query value)) h k known refl
 
 -- a grant for which a query waits
 granted_by : (sc : Scenario) (s : Server) (mail : Mail) (P : Effect Server → Type 0) → LockCases sc s mail P → (effect : Effect Server) (grant : Grant) (grants : List Grant) (q : QueryRequest) (entry : Entry)
@@ -370,7 +459,7 @@ granted_by sc s mail P cases effect grant grants q entry h owner found waiting =
     let valued = value_there effect.state q right.query right.has_value in
     let first : first_grant effect.state.locks ≡ Some grant = ap (λ (gs : List Grant). slice_get gs 0) h.left in
     let twice : Taking sc s.server P grants (followed_by effect (runs sc now q right.query (unwaiting entry) (deed_of q.query right.query valued.0))) =
-    proved_by sc s mail P cases effect grant grants q right.query entry valued.0 (verdict_at sc effect.state q (deed_of q.query right.query valued.0)) h
+    known_by sc s mail P cases effect grant grants q right.query entry valued.0 (newer_known effect.state (admin_of sc (item_of right.query)) q.pin) h
     (record { server_is = h.server_is; granted = first; owner_is = owner; found = found; waiting_is = waiting; exists = right.exists; unvoted = right.unvoted; upto = right.upto; on_item = right.on_item; item = right.item; item_is = right.item_is; here = right.here ∙ h.server_is; asked_is = right.asked_is; value_is = valued.1 }) refl in
     let valued_so : Taking sc s.server P grants (followed_by effect (resumes_with sc now q right.query (unwaiting entry) (value_of_run now q right.query))) =
     subst (λ (v : Option ℤ). Taking sc s.server P grants (followed_by effect (resumes_with sc now q right.query (unwaiting entry) v))) (sym valued.1) twice in
@@ -410,34 +499,40 @@ ends_by sc s mail P waits cases order letter h =
 
 -- by the proof of a query that has its lock, if it has one
 ran_by : (sc : Scenario) (s : Server) (mail : Mail) (P : Effect Server → Type 0) → LockCases sc s mail P → (q : QueryRequest) (query : Query) (entry : Entry) (value : ℤ) (proof : Option Verdict) → IsAsking sc s mail q query entry value
-    → lock_answer s q query entry ≡ asked.Granted → verdict_at sc s q (deed_of q.query query value) ≡ proof → P (runs_by (after_asking s q query entry) q query entry (deed_of q.query query value) proof)
-ran_by sc s mail P cases q query entry value None k e v = cases.ran q query entry value None k e (record { proof_is = v; holds = tt })
-ran_by sc s mail P cases q query entry value (Some verdict) k e v =
-    by_cond P (is_none verdict.rule) (λ fails. cases.denied q query entry value verdict k e (record { proof_is = v; fails = fails }))
-    (λ holds. cases.ran q query entry value (Some verdict) k e (record { proof_is = v; holds = holds }))
+    → lock_answer s q query entry ≡ asked.Granted → newer_known s (admin_of sc (item_of query)) q.pin ≡ None → verdict_at sc (pinned sc s q (deed_of q.query query value)) q (deed_of q.query query value) ≡ proof
+    → P (runs_by (pinned sc (after_asking s q query entry) q (deed_of q.query query value)) q query entry (deed_of q.query query value) proof)
+ran_by sc s mail P cases q query entry value None k e n v = cases.ran q query entry value None k e (record { none_newer = n; proof_is = v; holds = tt })
+ran_by sc s mail P cases q query entry value (Some verdict) k e n v =
+    by_cond P (is_none verdict.rule) (λ fails. cases.denied q query entry value verdict k e (record { none_newer = n; proof_is = v; fails = fails }))
+    (λ holds. cases.ran q query entry value (Some verdict) k e (record { none_newer = n; proof_is = v; holds = holds }))
+
+-- by what its server knows, where it pins a version
+granted_now : (sc : Scenario) (s : Server) (mail : Mail) (P : Effect Server → Type 0) → LockCases sc s mail P → (q : QueryRequest) (query : Query) (entry : Entry) (value : ℤ) (newer : Option Newer) → IsAsking sc s mail q query entry value
+    → lock_answer s q query entry ≡ asked.Granted → newer_known s (admin_of sc (item_of query)) q.pin ≡ newer → P (runs_at sc (after_asking s q query entry) q query entry (deed_of q.query query value) newer)
+granted_now sc s mail P cases q query entry value (Some newer) k e known = cases.outdated q query entry value newer k e known
+granted_now sc s mail P cases q query entry value None k e known = ran_by sc s mail P cases q query entry value (verdict_at sc (pinned sc s q (deed_of q.query query value)) q (deed_of q.query query value)) k e known refl
 
 answered_by_lock : (sc : Scenario) (s : Server) (mail : Mail) (P : Effect Server → Type 0) → LockCases sc s mail P → (q : QueryRequest) (query : Query) (entry : Entry) (value : ℤ) (given : Asked) → IsAsking sc s mail q query entry value
     → lock_answer s q query entry ≡ given → P (by_lock sc (after_asking s q query entry) q query entry value given)
-answered_by_lock sc s mail P cases q query entry value asked.Granted k e = ran_by sc s mail P cases q query entry value (verdict_at sc s q (deed_of q.query query value)) k e refl
+answered_by_lock sc s mail P cases q query entry value asked.Granted k e = granted_now sc s mail P cases q query entry value (newer_known s (admin_of sc (item_of query)) q.pin) k e refl
 answered_by_lock sc s mail P cases q query entry value asked.Waits k e = cases.waited q query entry value k e
 answered_by_lock sc s mail P cases q query entry value (asked.Dies other) k e = cases.died q query entry value other k e
 
 valued_by : (sc : Scenario) (s : Server) (mail : Mail) (P : Effect Server → Type 0) → LockCases sc s mail P → (q : QueryRequest) (query : Query) (entry : Entry) (value : Option ℤ) → mail.letter.body ≡ body.Query q
-    → is_open s q.txn ≡ true → IsFirstHere s mail.sent q entry ⊎ IsFurther s q entry → is_none q.pin ≡ true → asked_query sc q ≡ Some query → value_of_run s q query ≡ value
+    → is_open s q.txn ≡ true → IsFirstHere s mail.sent q entry ⊎ IsFurther s q entry → asked_query sc q ≡ Some query → value_of_run s q query ≡ value
     → P (asks_with sc s q query entry value)
-valued_by sc s mail P cases q query entry None e unsettled place unpinned asked v = cases.ignored
-valued_by sc s mail P cases q query entry (Some value) e unsettled place unpinned asked v =
-    answered_by_lock sc s mail P cases q query entry value (lock_answer s q query entry) (record { said_is = e; unsettled = unsettled; place = place; unpinned = unpinned; asked_is = asked; value_is = v }) refl
+valued_by sc s mail P cases q query entry None e unsettled place asked v = cases.ignored
+valued_by sc s mail P cases q query entry (Some value) e unsettled place asked v =
+    answered_by_lock sc s mail P cases q query entry value (lock_answer s q query entry) (record { said_is = e; unsettled = unsettled; place = place; asked_is = asked; value_is = v }) refl
 
 queried_by : (sc : Scenario) (s : Server) (mail : Mail) (P : Effect Server → Type 0) → LockCases sc s mail P → (q : QueryRequest) (entry : Entry) (query : Option Query) → mail.letter.body ≡ body.Query q
-    → is_open s q.txn ≡ true → IsFirstHere s mail.sent q entry ⊎ IsFurther s q entry → is_none q.pin ≡ true → asked_query sc q ≡ query → P (asks_query sc s q entry query)
-queried_by sc s mail P cases q entry None e unsettled place unpinned asked = cases.ignored
-queried_by sc s mail P cases q entry (Some query) e unsettled place unpinned asked = valued_by sc s mail P cases q query entry (value_of_run s q query) e unsettled place unpinned asked refl
+    → is_open s q.txn ≡ true → IsFirstHere s mail.sent q entry ⊎ IsFurther s q entry → asked_query sc q ≡ query → P (asks_query sc s q entry query)
+queried_by sc s mail P cases q entry None e unsettled place asked = cases.ignored
+queried_by sc s mail P cases q entry (Some query) e unsettled place asked = valued_by sc s mail P cases q query entry (value_of_run s q query) e unsettled place asked refl
 
 asks_by : (sc : Scenario) (s : Server) (mail : Mail) (P : Effect Server → Type 0) → LockCases sc s mail P → (q : QueryRequest) (entry : Entry) → mail.letter.body ≡ body.Query q
     → is_open s q.txn ≡ true → IsFirstHere s mail.sent q entry ⊎ IsFurther s q entry → P (asks sc s q entry)
-asks_by sc s mail P cases q entry e unsettled place =
-    by_cond P (is_none q.pin) (λ unpinned. queried_by sc s mail P cases q entry (asked_query sc q) e unsettled place unpinned refl) (λ pinned. cases.ignored)
+asks_by sc s mail P cases q entry e unsettled place = queried_by sc s mail P cases q entry (asked_query sc q) e unsettled place refl
 
 unlost_by : (sc : Scenario) (s : Server) (mail : Mail) (P : Effect Server → Type 0) → LockCases sc s mail P → (q : QueryRequest) (entry : Entry) (given : Option DoneReply) → mail.letter.body ≡ body.Query q
     → is_open s q.txn ≡ true → entry_at s q.txn ≡ Some entry → is_some entry.ballot ≡ false → names_another_epoch q entry ≡ false → answer_to entry q.query ≡ given → P (on_unlost_query sc s q entry given)
@@ -468,22 +563,22 @@ on_open_query_by sc s mail P cases q (Some entry) e unsettled found =
 
 -- ---- Prepare
 
-votes_by : (sc : Scenario) (s : Server) (mail : Mail) (P : Effect Server → Type 0) → LockCases sc s mail P → (p : PrepareRequest) (entry : Entry) (staple : Staple) (txn : Option Transaction)
-    → ((declared : Transaction) → txn ≡ Some declared → IsVote sc s mail p entry staple declared) → P (votes_with sc s p entry staple txn)
-votes_by sc s mail P cases p entry staple None vote_is = cases.ignored
-votes_by sc s mail P cases p entry staple (Some declared) vote_is = cases.voted p entry staple declared (vote_is declared refl)
+votes_by : (sc : Scenario) (s : Server) (mail : Mail) (P : Effect Server → Type 0) → LockCases sc s mail P → (p : PrepareRequest) (entry : Entry) (staple : Staple) (txn : Option Transaction) → slice_get sc.txns p.txn.0 ≡ txn → p.staple ≡ Some staple
+    → ((verdicts : List Verdict) → IsEvaluated sc s p entry verdicts → IsVote sc s mail p entry verdicts) → P (votes_with sc s p entry staple txn)
+votes_by sc s mail P cases p entry staple None there given vote_is = cases.ignored
+votes_by sc s mail P cases p entry staple (Some declared) there given vote_is =
+    cases.voted p entry (verdicts_on sc (with_wants s p.want) declared staple p.want entry.deeds) (vote_is (verdicts_on sc (with_wants s p.want) declared staple p.want entry.deeds) (Stapled staple declared given there))
 
-evaluates_by : (sc : Scenario) (s : Server) (mail : Mail) (P : Effect Server → Type 0) → LockCases sc s mail P → (p : PrepareRequest) (entry : Entry) (staple : Option Staple)
-    → ((given : Staple) (declared : Transaction) → staple ≡ Some given → slice_get sc.txns p.txn.0 ≡ Some declared → IsVote sc s mail p entry given declared) → P (evaluates sc s p entry staple)
-evaluates_by sc s mail P cases p entry None vote_is = cases.ignored
-evaluates_by sc s mail P cases p entry (Some staple) vote_is = votes_by sc s mail P cases p entry staple (slice_get sc.txns p.txn.0) (λ declared there. vote_is staple declared refl there)
+evaluates_by : (sc : Scenario) (s : Server) (mail : Mail) (P : Effect Server → Type 0) → LockCases sc s mail P → (p : PrepareRequest) (entry : Entry) (staple : Option Staple) → p.staple ≡ staple
+    → ((verdicts : List Verdict) → IsEvaluated sc s p entry verdicts → IsVote sc s mail p entry verdicts) → P (evaluates sc s p entry staple)
+evaluates_by sc s mail P cases p entry None given vote_is = cases.voted p entry [] (vote_is [] (Unstapled given))
+evaluates_by sc s mail P cases p entry (Some staple) given vote_is = votes_by sc s mail P cases p entry staple (slice_get sc.txns p.txn.0) refl given vote_is
 
 -- what is evaluated is voted on
 evaluated_by : (sc : Scenario) (s : Server) (mail : Mail) (P : Effect Server → Type 0) → LockCases sc s mail P → (p : PrepareRequest) (entry : Entry) → mail.letter.body ≡ body.Prepare p
     → is_open s p.txn ≡ true → entry_at s p.txn ≡ Some entry → (entry.epoch == p.epoch) ≡ true → IsFirstVote s p entry ⊎ IsLaterVote p entry → P (evaluates sc s p entry p.staple)
 evaluated_by sc s mail P cases p entry e unsettled found same place =
-    evaluates_by sc s mail P cases p entry p.staple
-    (λ staple txn given declared. record { said_is = e; unsettled = unsettled; found = found; same_epoch = same; place = place; stapled = given; declared = declared })
+    evaluates_by sc s mail P cases p entry p.staple refl (λ verdicts evaluated. record { said_is = e; unsettled = unsettled; found = found; same_epoch = same; place = place; evaluated = evaluated })
 
 in_range_by : (sc : Scenario) (s : Server) (mail : Mail) (P : Effect Server → Type 0) → AreRightWaits sc s → LockCases sc s mail P → (p : PrepareRequest) (entry : Entry) (outside : Option (ℕ × ℤ)) → mail.letter.body ≡ body.Prepare p
     → is_open s p.txn ≡ true → entry_at s p.txn ≡ Some entry → (entry.epoch == p.epoch) ≡ true → entry.ballot ≡ None → first_outside_in s.store p.txn ≡ outside → P (votes_in_range sc s p entry outside)
@@ -532,6 +627,28 @@ late_request_by : (sc : Scenario) (s : Server) (mail : Mail) (P : Effect Server 
 late_request_by sc s mail P cases p None e found = cases.ignored
 late_request_by sc s mail P cases p (Some settled) e found = refused_by sc s mail P cases p settled settled.why e found refl
 
+-- ---- Validate
+
+shown_by : (sc : Scenario) (s : Server) (mail : Mail) (P : Effect Server → Type 0) → LockCases sc s mail P → (v : ValidateRequest) (entry : Entry) (txn : Option Transaction) → slice_get sc.txns v.txn.0 ≡ txn
+    → ((declared : Transaction) → slice_get sc.txns v.txn.0 ≡ Some declared → IsValidation sc s mail v entry declared) → P (shows_with sc s v entry txn)
+shown_by sc s mail P cases v entry None e shown_is = cases.ignored
+shown_by sc s mail P cases v entry (Some declared) e shown_is = cases.shown v entry declared (shown_is declared e)
+
+asked_to_show_by : (sc : Scenario) (s : Server) (mail : Mail) (P : Effect Server → Type 0) → LockCases sc s mail P → (v : ValidateRequest) (entry : Option Entry) → mail.letter.body ≡ body.Validate v
+    → is_open s v.txn ≡ true → entry_at s v.txn ≡ entry → P (asked_to_show sc s v entry)
+asked_to_show_by sc s mail P cases v None e unsettled found = cases.lost_verdicts v (record { said_is = e; unsettled = unsettled; elsewhere = λ entry there same. cc })
+asked_to_show_by sc s mail P cases v (Some entry) e unsettled found =
+    by_cond P (is_some entry.ballot) (λ voted. cases.ignored)
+    (λ unvoted. by_cond P (not (entry.epoch == v.epoch))
+    (λ another. cases.lost_verdicts v
+    (record {
+      said_is = e;
+      unsettled = unsettled;
+      elsewhere = λ other there same. eqb-false entry.epoch v.epoch (not-true (entry.epoch == v.epoch) another) (ap (λ (x : Entry). x.epoch) (same_Some entry other (sym found ∙ there)) ∙ same);
+    }))
+    (λ same. shown_by sc s mail P cases v entry (slice_get sc.txns v.txn.0) refl
+    (λ declared there. record { said_is = e; unsettled = unsettled; found = found; unvoted = unvoted; same_epoch = not-false (entry.epoch == v.epoch) same; declared = there })))
+
 -- ---- Decide
 
 late_by : (sc : Scenario) (s : Server) (mail : Mail) (P : Effect Server → Type 0) → LockCases sc s mail P → (d : DecideRequest) (settled : Option Settled) → mail.letter.body ≡ body.Decide d
@@ -547,6 +664,8 @@ said_by sc s mail P waits cases (body.Query q) e =
 said_by sc s mail P waits cases (body.Prepare p) e =
     by_cond P (is_open s p.txn) (λ unsettled. asked_to_vote_by sc s mail P waits cases p (entry_at s p.txn) e unsettled refl)
     (λ settled. late_request_by sc s mail P cases p (option_flatten (slice_get s.settled p.txn.0)) e refl)
+said_by sc s mail P waits cases (body.Validate v) e =
+    by_cond P (is_open s v.txn) (λ unsettled. asked_to_show_by sc s mail P cases v (entry_at s v.txn) e unsettled refl) (λ settled. cases.ignored)
 said_by sc s mail P waits cases (body.Decide d) e =
     by_cond P (is_open s d.txn) (λ unsettled. ends_by sc s mail P waits cases (settled_as d) (ack_letter s d.txn) (cases.settled d (record { said_is = e; unsettled = unsettled }))) (λ settled. late_by sc s mail P cases d (option_flatten (slice_get s.settled d.txn.0)) e refl)
 said_by sc s mail P waits cases (body.Push push) e = by_cond P (nat_lt (version_known s push.admin).0 push.version.0) (λ newer. cases.pushed push (record { said_is = e; newer = newer })) (λ known. cases.ignored)

@@ -2,7 +2,7 @@
 use Rattle.std.specs.List.{find}
 use Rattle.std.specs.Option.{option_flatten, option_map_or}
 use Rattle.std.specs.Prelude.{Bool, List, None, Option, Some, [], false, if◌then◌else◌, is_none, is_some, nat_lt, not, option_and_then, option_map, slice_get, slice_set, unwrap_or, ℕ, ℤ, ◌++◌, ◌==◌, ◌∷◌}
-use Rattle.tp_types.specs.Effect.{Effect, ignores, logs, sends, unbuilt}
+use Rattle.tp_types.specs.Effect.{Effect, ignores, logs, sends}
 use Rattle.tp_types.specs.Table.{is_unset}
 use Rattle.tp_types.specs.declared.records.Outcome.TheVariants.{Abort, Commit}
 use Rattle.tp_types.specs.declared.scenario.Query.TheVariants.{Read, Write}
@@ -17,13 +17,13 @@ use Rattle.tp_model.specs.Words.body
 use Rattle.tp_model.specs.Words.log
 use Rattle.tp_model.specs.Words.no
 use Rattle.tp_model.specs.Words.vote
-use Rattle.tp_model.specs.Words.{Answer, Body, DecideRequest, Deed, DoneReply, ItemId, Letter, Mail, No, Outcome, PrepareRequest, Prepared, PushNotice, Query, QueryRequest, Scenario, Settled, Staple, Told, Transaction, TxnId, Verdict}
+use Rattle.tp_model.specs.Words.{AdminId, Answer, Body, DecideRequest, Deed, DoneReply, ItemId, Letter, Mail, Newer, No, Outcome, PrepareRequest, Prepared, PushNotice, Query, QueryRequest, Scenario, Settled, Staple, Told, Transaction, TxnId, ValidateRequest, Verdict, Version}
 use Rattle.tp_model.specs.Authorisation.{action_of}
 use Rattle.tp_model.specs.Deeds.{deed_of}
 use Rattle.tp_server.specs.declared.server.Ballot.{Ballot}
 use Rattle.tp_server.specs.declared.server.Entry.{Entry}
 use Rattle.tp_server.specs.State.{Server}
-use Rattle.tp_server.specs.Verdicts.{verdict_on, verdicts_on, version_known, with_wants}
+use Rattle.tp_server.specs.Verdicts.{admin_of, verdict_on, verdicts_on, version_known, with_pin, with_wants}
 use Rattle.tp_store.specs.Contents.{Contents}
 use Rattle.tp_store.specs.Rule.{after_apply, after_forget, after_write, first_outside_in, read_in, with_version}
 use Rattle.tp_store.specs.declared.writes.TentativeWrite.{TentativeWrite}
@@ -142,9 +142,31 @@ runs_by s q query entry deed (Some verdict) =
     if is_none verdict.rule then answers_with s q entry (answer.Denied verdict)
     else completes s q query entry deed (Some verdict)
 
+-- the version that the server knows of an administrator, if it is newer than the pinned one
+abbrev pub newer_than : Server → AdminId → Version → Option Newer
+newer_than s admin pin =
+    if nat_lt pin.0 (version_known s admin).0
+    then Some (record { admin = admin; used = pin; found = version_known s admin })
+    else None
+
+abbrev pub newer_known : Server → AdminId → Option Version → Option Newer
+newer_known s admin pin = option_and_then (newer_than s admin) pin
+
+-- the server that runs a query has learnt the version that is pinned for it, if one is
+abbrev pub pinned : Scenario → Server → QueryRequest → Deed → Server
+pinned sc s q deed = with_pin s (admin_of sc deed.item) q.pin
+
+-- where the server knows a newer version than the pinned one, a query does nothing
+abbrev pub runs_at : Scenario → Server → QueryRequest → Query → Entry → Deed → Option Newer
+    → Effect Server
+runs_at sc s q query entry deed (Some newer) = answers_with s q entry (answer.Newer newer)
+runs_at sc s q query entry deed None =
+    runs_by (pinned sc s q deed) q query entry deed (verdict_at sc (pinned sc s q deed) q deed)
+
 -- a query that has its lock
 abbrev pub runs : Scenario → Server → QueryRequest → Query → Entry → Deed → Effect Server
-runs sc s q query entry deed = runs_by s q query entry deed (verdict_at sc s q deed)
+runs sc s q query entry deed =
+    runs_at sc s q query entry deed (newer_known s (admin_of sc deed.item) q.pin)
 
 -- ---- a query asks for its lock
 
@@ -181,11 +203,9 @@ abbrev pub asks_query : Scenario → Server → QueryRequest → Entry → Optio
 asks_query sc s q entry None = ignores s
 asks_query sc s q entry (Some query) = asks_with sc s q query entry (value_of_run s q query)
 
--- a query asks for its lock. One that is asked with a pin is not built
+-- a query asks for its lock
 abbrev pub asks : Scenario → Server → QueryRequest → Entry → Effect Server
-asks sc s q entry =
-    if is_none q.pin then asks_query sc s q entry (asked_query sc q)
-    else unbuilt s
+asks sc s q entry = asks_query sc s q entry (asked_query sc q)
 
 -- ---- which query may ask
 
@@ -275,11 +295,11 @@ abbrev pub votes_with : Scenario → Server → PrepareRequest → Entry → Sta
 votes_with sc s p entry staple None = ignores s
 votes_with sc s p entry staple (Some txn) = votes_on sc (with_wants s p.want) p entry staple txn
 
--- with a staple each deed is evaluated and voted on; without one there are to be no verdicts
+-- with a staple each deed is evaluated and voted on; without one there are no verdicts, as each deed was proved as it ran
 abbrev pub evaluates : Scenario → Server → PrepareRequest → Entry → Option Staple → Effect Server
 evaluates sc s p entry (Some staple) =
     votes_with sc s p entry staple (slice_get sc.txns p.txn.0)
-evaluates sc s p entry None = unbuilt s
+evaluates sc s p entry None = votes (with_wants s p.want) p [] entry
 
 -- ---- the end of a transaction
 
@@ -436,6 +456,38 @@ on_decide sc s d =
     if is_open s d.txn then settles sc s d
     else on_settled_decide s d (option_flatten (slice_get s.settled d.txn.0))
 
+-- ---- Validate
+
+-- the verdicts on the queries so far; none where what was done here was lost
+abbrev pub verdicts_letter : Server → ValidateRequest → Option (List Verdict) → Letter
+verdicts_letter s v verdicts =
+    reply s v.txn (body.Verdicts (record { txn = v.txn; turn = v.turn; verdicts = verdicts }))
+
+abbrev pub shows : Server → ValidateRequest → Option (List Verdict) → Effect Server
+shows s v verdicts = sends s (verdicts_letter s v verdicts ∷ [])
+
+-- each deed is evaluated with the staple
+abbrev pub shows_on : Scenario → Server → ValidateRequest → Entry → Transaction → Effect Server
+shows_on sc s v entry txn = shows s v (Some (verdicts_on sc s txn v.staple v.want entry.deeds))
+
+-- the wanted versions are learnt before what a transaction of the scenario did here is evaluated
+abbrev pub shows_with : Scenario → Server → ValidateRequest → Entry → Option Transaction → Effect Server
+shows_with sc s v entry None = ignores s
+shows_with sc s v entry (Some txn) = shows_on sc (with_wants s v.want) v entry txn
+
+-- a request to evaluate what a transaction did that is not settled. What is prepared is evaluated no more; where no entry is of the epoch
+-- that it names, what was done here in that epoch was lost
+abbrev pub asked_to_show : Scenario → Server → ValidateRequest → Option Entry → Effect Server
+asked_to_show sc s v None = shows s v None
+asked_to_show sc s v (Some entry) =
+    if is_some entry.ballot then ignores s
+    else if not (entry.epoch == v.epoch) then shows s v None
+    else shows_with sc s v entry (slice_get sc.txns v.txn.0)
+
+abbrev pub on_validate : Scenario → Server → ValidateRequest → Effect Server
+on_validate sc s v =
+    if is_open s v.txn then asked_to_show sc s v (entry_at s v.txn) else ignores s
+
 -- ---- Push
 
 abbrev pub told_of : PushNotice → Told
@@ -459,7 +511,7 @@ abbrev pub on_body : Scenario → Server → ℕ → Body → Effect Server
 on_body sc s sent (body.Query q) = on_query sc s sent q
 on_body sc s sent (body.Prepare p) = on_prepare sc s p
 on_body sc s sent (body.Decide d) = on_decide sc s d
-on_body sc s sent (body.Validate v) = unbuilt s
+on_body sc s sent (body.Validate v) = on_validate sc s v
 on_body sc s sent (body.Push push) = on_push s push
 on_body sc s sent _ = ignores s
 

@@ -1,5 +1,5 @@
--- A server's verdicts at Prepare: each is what a version of a policy gives on what the transaction presents. It is the version that is
--- wanted, or else the one that the server knows.
+-- A server's verdicts: each is what a version of a policy gives on what the transaction presents. It is the version that is wanted, or
+-- else the one that the server knows, which is no less than the one that is pinned for a query.
 use Rattle.std.specs.Prelude.{ℕ, ◌≡◌, ◌<◌, ◌^◌, List, [], ◌∷◌, None, Option, Some, length, map, option_map, slice_get, unwrap_or}
 use Rattle.tp_model.specs.Authorisation.{policy_at}
 use Rattle.tp_model.specs.Words.{AdminId, Deed, Item, ItemId, Policy, Scenario, Staple, Transaction, Verdict, Version}
@@ -28,6 +28,16 @@ with_versions store (wanted ∷ want) = with_versions (with_version store wanted
 -- the server once it has learnt each of these versions
 abbrev pub with_wants : Server → List (AdminId × Version) → Server
 with_wants s want = record s { store = with_versions s.store want }
+
+-- the versions known once this one is, if it is given
+abbrev pub known_with : Contents → AdminId → Option Version → List Version
+known_with store admin None = store.known
+known_with store admin (Some version) = (with_version store admin version).known
+
+-- the server once it has learnt the version that is pinned for a query, if one is
+abbrev pub with_pin : Server → AdminId → Option Version → Server
+with_pin s admin pin =
+    record s { store = record s.store { known = known_with s.store admin pin } }
 
 abbrev pub version_or : Option ℕ → Version → Version
 version_or None known = known

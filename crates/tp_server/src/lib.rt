@@ -14,6 +14,7 @@ mod endings;
 pub mod evaluation;
 mod queries;
 mod server;
+mod validations;
 mod verdicts;
 mod votes;
 

@@ -3,18 +3,20 @@ ghost use Rattle.std.specs.Prelude.{◌≡◌, [], ◌∷◌, Option, Some, None
 ghost use Rattle.std.specs.Option.{option_copied};
 ghost use Rattle.tp_model.specs.Deeds as ran;
 ghost use Rattle.tp_types.specs.Effect.{Gives, sends};
+ghost use Rattle.tp_server.specs.Verdicts as verdicts;
 ghost use Rattle.tp_server.specs.Verdicts.{HasFewRules};
 ghost use Rattle.tp_server.specs.Row as row;
 ghost use Rattle.tp_server.specs.mirrors.Entries.{Continues, entry_of, IsNoted};
 
 use crate::server::{Entry, Server};
-use crate::verdicts::verdict_alone;
+use crate::verdicts::{admin_of, verdict_alone};
 use std::alloc::Global;
 use tp_lock::{Asked, LockTable};
 use tp_model::{action_of, deed_of, item_of, query_at};
 use tp_types::{
-    Answer, Body, Deed, DoneReply, Letter, List, NoMemory, Place, Query, QueryRequest, Reaction,
-    Scenario, TryClone, TxnId, Verdict, ignored, nothing, sent_alone, take_at, unbuilt,
+    AdminId, Answer, Body, Deed, DoneReply, Letter, List, Newer, NoMemory, Place, Query,
+    QueryRequest, Reaction, Scenario, TryClone, TxnId, Verdict, Version, ignored, nothing,
+    sent_alone, take_at,
 };
 
 impl<L: LockTable + Drop> Server<L> {
@@ -86,9 +88,6 @@ impl<L: LockTable + Drop> Server<L> {
             (entry_of self.old sent request.now))
             self.new reaction) }
     {
-        if request.pin.is_some() {
-            return Ok(unbuilt(alloc));
-        }
         let Some(query) = asked_query(scenario, request) else {
             return Ok(ignored(alloc));
         };
@@ -175,7 +174,8 @@ impl<L: LockTable + Drop> Server<L> {
         }
     }
 
-    /// A query that has its lock runs, unless it was asked with a staple and its proof is false; the letter answers it.
+    /// A query that has its lock runs, unless the server knows a newer version than the pinned one, which is else learnt,
+    /// or the query was asked with a staple and its proof is false; the letter answers it.
     fn runs(
         &mut self,
         alloc: Global,
@@ -193,6 +193,51 @@ impl<L: LockTable + Drop> Server<L> {
             ≡ sends self.new (letter ∷ [])) }
     {
         let deed = deed_of(request.query, query, value);
+        let admin = admin_of(scenario, deed.item);
+        if let Some(newer) = self.newer_known(admin, request.pin) {
+            return self.answers_with(alloc, sent, request, Answer::Newer(newer));
+        }
+        self.learns_pin(admin, request.pin);
+        self.runs_proved(alloc, scenario, sent, request, query, deed)
+    }
+
+    /// The version that the server knows, if it is newer than the pinned one.
+    fn newer_known(&self, admin: AdminId, pin: Option<Version>) -> Option<Newer>
+        ensures { result ≡ row.newer_known self.now admin pin }
+    {
+        let used = pin?;
+        let found = self.store.newest(admin);
+        if used.0 < found.0 {
+            Some(Newer { admin, used, found })
+        } else {
+            None
+        }
+    }
+
+    fn learns_pin(&mut self, admin: AdminId, pin: Option<Version>)
+        ensures { self.new ≡ verdicts.with_pin self.old admin pin }
+    {
+        if let Some(version) = pin {
+            self.store.told(admin, version);
+        }
+    }
+
+    /// A query runs, unless its proof is false.
+    fn runs_proved(
+        &mut self,
+        alloc: Global,
+        scenario: &Scenario,
+        sent: Place,
+        request: &QueryRequest,
+        query: &Query,
+        deed: Deed,
+    ) -> Result<Letter, NoMemory>
+        requires { HasFewRules scenario.now }
+        ensures { IfOk result (λ letter.
+            row.runs_by self.old request.now query.now (entry_of self.old sent request.now) deed
+            (row.verdict_at scenario.now self.old request.now deed)
+            ≡ sends self.new (letter ∷ [])) }
+    {
         match self.verdict_at(alloc, scenario, request, deed)? {
             None => self.completes(alloc, sent, request, query, deed, None),
             Some(verdict) => {

@@ -15,7 +15,7 @@ use tp_store::Store;
 use tp_types::{
     Actor, Body, Deed, DoneReply, Letter, List, Mail, NoMemory, Place, PushNotice, QueryRequest,
     Reaction, Record, Scenario, ServerId, Settled, Told, TxnId, Verdict, both, ignored,
-    none_for_each, unbuilt,
+    none_for_each,
 };
 
 /// What a server voted YES on: the turn of the request, and its verdicts.
@@ -112,7 +112,7 @@ impl<L: LockTable + Drop> Server<L> {
             Body::Prepare(request) => self.on_prepare(alloc, scenario, request),
             Body::Decide(request) => self.on_decide(alloc, scenario, *request),
             Body::Push(push) => Ok(self.on_push(alloc, *push)),
-            Body::Validate(_) => Ok(unbuilt(alloc)),
+            Body::Validate(request) => self.on_validate(alloc, scenario, request),
             _ => Ok(ignored(alloc)),
         }
     }

@@ -1,4 +1,4 @@
-//! A server's verdicts, where a query runs that was asked with a staple, and at Prepare.
+//! A server's verdicts, where a query runs that was asked with a staple, on the queries so far, and at Prepare.
 ghost use Rattle.std.specs.Prelude.{◌≡◌, ◌<◌, ◌^◌, [], filter, find, length, Some, IfOk};
 ghost use Rattle.tp_model.specs.Authorisation as authorisation;
 ghost use Rattle.tp_model.specs.Credentials as credentials;
@@ -12,6 +12,7 @@ use std::alloc::Global;
 use tp_eval::{Certificate, Evidence, certify, valid_of};
 use tp_lock::LockTable;
 use tp_model::{action_of, item_of, policy_at, query_at};
+use tp_store::Store;
 use tp_types::{
     AdminId, CredId, Deed, ItemId, List, NoMemory, Place, Policy, Query, Scenario, ServerId,
     Staple, Transaction, Verdict, Version,
@@ -53,6 +54,15 @@ fn valid_with(
         staple.clock,
         staple.revoked.as_slice(),
     )
+}
+
+/// Learns each of these versions.
+pub fn learn(store: &mut Store, want: &[(AdminId, Version)])
+    ensures { store.new ≡ verdicts.with_versions store.old want.now }
+{
+    for wanted in want {
+        store.told(wanted.0, wanted.1);
+    }
 }
 
 /// The verdicts on what the transaction did at the server.
@@ -230,7 +240,7 @@ fn certificate_by(
     certify(alloc, &held, policy, action_of(query), &item.name)
 }
 
-fn admin_of(scenario: &Scenario, item: ItemId) -> AdminId
+pub fn admin_of(scenario: &Scenario, item: ItemId) -> AdminId
     ensures { result ≡ verdicts.admin_of scenario.now item }
 {
     match scenario.items.get(item.0 as usize) {

@@ -4,18 +4,16 @@ ghost use Rattle.tp_types.specs.Effect.{Gives};
 ghost use Rattle.std.specs.Option.{option_flatten};
 ghost use Rattle.tp_server.specs.declared.server.Entry.{Entry};
 ghost use Rattle.tp_server.specs.Row as row;
-ghost use Rattle.tp_server.specs.Verdicts as verdicts;
 ghost use Rattle.tp_server.specs.Verdicts.{HasFewRules};
 
 use crate::server::{Ballot, Entry, Server};
-use crate::verdicts::verdicts_on;
+use crate::verdicts::{learn, verdicts_on};
 use std::alloc::Global;
 use tp_lock::LockTable;
-use tp_store::Store;
 use tp_types::{
-    AdminId, Body, Letter, List, No, NoMemory, Outcome, PrepareRequest, Prepared, Reaction, Record,
-    Scenario, Settled, TryClone, TxnId, Verdict, Version, Vote, VoteReply, both, forced_and_sent,
-    ignored, sent_alone, take_at, unbuilt,
+    Body, Letter, List, No, NoMemory, Outcome, PrepareRequest, Prepared, Reaction, Record,
+    Scenario, Settled, TryClone, TxnId, Verdict, Vote, VoteReply, both, forced_and_sent, ignored,
+    sent_alone, take_at,
 };
 
 impl<L: LockTable + Drop> Server<L> {
@@ -52,7 +50,8 @@ impl<L: LockTable + Drop> Server<L> {
         self.evaluates(alloc, scenario, request)
     }
 
-    /// Learns the versions that are wanted, evaluates what the transaction did here, and votes YES.
+    /// Learns the versions that are wanted, and votes YES: with a staple on what the transaction did here, which is
+    /// evaluated, and else without verdicts.
     fn evaluates(
         &mut self,
         alloc: Global,
@@ -67,7 +66,8 @@ impl<L: LockTable + Drop> Server<L> {
             self.new reaction) }
     {
         let Some(staple) = &request.staple else {
-            return Ok(unbuilt(alloc));
+            learn(&mut self.store, request.want.as_slice());
+            return self.votes_with(alloc, request, List::new(alloc));
         };
         let Some(txn) = scenario.txns.get(request.txn.0 as usize) else {
             return Ok(ignored(alloc));
@@ -79,6 +79,23 @@ impl<L: LockTable + Drop> Server<L> {
         };
         let deeds = entry.deeds.as_slice();
         let verdicts = verdicts_on(alloc, scenario, self, txn, staple, want, deeds)?;
+        self.votes_with(alloc, request, verdicts)
+    }
+
+    /// Votes YES with these verdicts, where the transaction has an entry.
+    fn votes_with(
+        &mut self,
+        alloc: Global,
+        request: &PrepareRequest,
+        verdicts: List<Verdict>,
+    ) -> Result<Reaction, NoMemory>
+        ensures { IfOk result (λ reaction. (entry : Entry)
+            → row.entry_at self.old request.now.txn ≡ Some entry
+            → Gives (row.votes self.old request.now verdicts entry) self.new reaction) }
+    {
+        let Some(entry) = self.entry_at(request.txn) else {
+            return Ok(ignored(alloc));
+        };
         let forced = self.prepared(alloc, request, entry, verdicts)?;
         self.votes(alloc, forced)
     }
@@ -203,15 +220,6 @@ impl<L: LockTable + Drop> Server<L> {
         };
         let letter = self.reply(forced.txn, Body::Vote(vote));
         forced_and_sent(alloc, Record::Prepared(forced), letter)
-    }
-}
-
-/// Learns each of these versions.
-fn learn(store: &mut Store, want: &[(AdminId, Version)])
-    ensures { store.new ≡ verdicts.with_versions store.old want.now }
-{
-    for wanted in want {
-        store.told(wanted.0, wanted.1);
     }
 }
 

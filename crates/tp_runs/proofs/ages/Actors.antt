@@ -4,12 +4,13 @@ use Rattle.std.proofs.Common.{IfSome, List, None, Option, Some, [], ap, is_some,
 use Rattle.tp_types.specs.Effect.{Effect, ignores}
 use Rattle.tp_model.specs.Words.body
 use Rattle.tp_model.specs.Words.outcome
-use Rattle.tp_model.specs.Words.{Body, Letter, Mail, Outcome, Prepared, Query, QueryRequest, Reading, Record, Scenario, ServerId, Staple, TxnId}
+use Rattle.tp_model.specs.Words.{Body, Letter, Mail, Outcome, Prepared, Query, QueryRequest, Record, Scenario, ServerId, Staple, TxnId}
 use Rattle.tp_types.proofs.EachLemmas.{each_more, placed_emptied, placed_set}
 use Rattle.tp_runs.proofs.basics.Logs.{Prepares}
-use Rattle.tp_runs.proofs.basics.Phases.{awaits_is, is_running}
-use Rattle.tp_scheme.specs.declared.moves.Point.TheVariants as point
-use Rattle.tp_coord.proofs.Rows.{ByReading, ByVotes, Gained, IsJudged, IsPassed, QueryRan, coordinator_by, submit_by, timer_by}
+use Rattle.tp_runs.proofs.basics.Passed.{judged_running, passed_running, reply_checking}
+use Rattle.tp_runs.proofs.basics.Phases.{is_running}
+use Rattle.tp_scheme.specs.declared.moves.Point.{Point}
+use Rattle.tp_coord.proofs.Rows.{Gained, IsPassed, coordinator_by, submit_by, timer_by, with_gained}
 use Rattle.tp_server.proofs.Rows.{AreRightWaits, IsAsking, IsFirstHere, IsFurther, server_by}
 use Rattle.tp_machine.specs.Machine.{with_age}
 use Rattle.tp_model.specs.Deeds.{deed_of}
@@ -17,6 +18,8 @@ use Rattle.tp_types.specs.Each.{Each, EachPlaced}
 use Rattle.tp_coord.specs.Row as coord
 use Rattle.tp_round.specs.declared.round.Round.{Round}
 use Rattle.tp_coord.specs.State.{Coordinator}
+use Rattle.tp_coord.specs.declared.coordinator.Span.TheVariants as span
+use Rattle.tp_coord.specs.declared.coordinator.Span.{Span}
 use Rattle.tp_server.specs.declared.server.Entry.{Entry}
 use Rattle.tp_server.specs.Row as server
 use Rattle.tp_server.specs.State.{Server}
@@ -79,6 +82,7 @@ server_row_ages A place sc s mail waits h m =
     server_by sc s mail (ServerAges A place) waits
     (record {
       relocked = λ effect locks k. record { entries = k.entries; forces = k.forces; letters = k.letters };
+      relearnt = λ effect admin pin k. record { entries = k.entries; forces = k.forces; letters = k.letters };
       ignored = ignores_ages A place s h;
       ran = λ q query entry value proof k r.
           record {
@@ -87,13 +91,16 @@ server_row_ages A place sc s mail waits h m =
             letters = (tt, tt);
           };
       denied = λ q query entry value verdict k d. record { entries = placed_set (EntryAged A) s.entries q.txn.0 _ h (ran_age A sc s mail q query entry value h m k); forces = tt; letters = (tt, tt) };
+      outdated = λ q query entry value newer k found. record { entries = placed_set (EntryAged A) s.entries q.txn.0 _ h (ran_age A sc s mail q query entry value h m k); forces = tt; letters = (tt, tt) };
       waited = λ q query entry value k. record { entries = placed_set (EntryAged A) s.entries q.txn.0 _ h (ran_age A sc s mail q query entry value h m k); forces = tt; letters = tt };
       died = λ q query entry value other k dying. record { entries = placed_set (EntryAged A) s.entries q.txn.0 _ h (ran_age A sc s mail q query entry value h m k); forces = tt; letters = (tt, tt) };
       restarted = λ q k. record { entries = h; forces = tt; letters = (tt, tt) };
       answered = λ q entry given k. record { entries = h; forces = tt; letters = (tt, tt) };
-      voted = λ p entry staple txn k.
+      voted = λ p entry verdicts k.
           let old : A p.txn entry.age = h p.txn.0 entry k.found in
           record { entries = placed_set (EntryAged A) s.entries p.txn.0 _ h old; forces = old; letters = (tt, tt) };
+      shown = λ v entry txn k. record { entries = h; forces = tt; letters = (tt, tt) };
+      lost_verdicts = λ v k. record { entries = h; forces = tt; letters = (tt, tt) };
       voted_again = λ p entry cast k. record { entries = h; forces = tt; letters = (tt, tt) };
       refused = λ p entry number value k. record { entries = placed_emptied (EntryAged A) s.entries p.txn.0 h; forces = tt; letters = (tt, tt) };
       lost = λ p k. record { entries = placed_emptied (EntryAged A) s.entries p.txn.0 h; forces = tt; letters = (tt, tt) };
@@ -113,6 +120,12 @@ server_row_ages A place sc s mail waits h m =
             forces = now.forces;
             letters = each_more (LetterAged A place) effect.reaction.letters _ now.letters tt;
           };
+      resumed_outdated = λ effect grant q query entry value newer k found now.
+          record {
+            entries = placed_set (EntryAged A) effect.state.entries q.txn.0 _ now.entries (now.entries q.txn.0 entry k.found);
+            forces = now.forces;
+            letters = each_more (LetterAged A place) effect.reaction.letters _ now.letters tt;
+          };
     })
 
 -- ---- a coordinator's rows
@@ -125,10 +138,20 @@ told_age : (A : TxnId → ℕ → Type 0) (txn : TxnId) (age : Option ℕ) (plac
 told_age A txn None place e h = absurd (cc)
 told_age A txn (Some old) place e h = h
 
-prepare_letters_aged : (A : TxnId → ℕ → Type 0) (place : ℕ) (c : Coordinator) (turn : ℕ) (round : Round) (staple : Staple) (servers : List ServerId)
-    → Each (LetterAged A place) (map (coord.prepare_letter c turn round staple) servers)
-prepare_letters_aged A place c turn round staple [] = tt
-prepare_letters_aged A place c turn round staple (at ∷ servers) = (tt, prepare_letters_aged A place c turn round staple servers)
+-- letters that tell no age
+all_ageless : (A : TxnId → ℕ → Type 0) (place : ℕ) (letter : ServerId → Letter) → ((at : ServerId) → LetterAged A place (letter at)) → (servers : List ServerId) → Each (LetterAged A place) (map letter servers)
+all_ageless A place letter none [] = tt
+all_ageless A place letter none (at ∷ servers) = (none at, all_ageless A place letter none servers)
+
+round_letter_aged : (A : TxnId → ℕ → Type 0) (place : ℕ) (c : Coordinator) (over : Span) (turn : ℕ) (round : Round) (staple : Staple) (at : ServerId) → LetterAged A place (coord.round_letter c over turn round staple at)
+round_letter_aged A place c (span.Validate number) turn round staple at = tt
+round_letter_aged A place c span.Commit turn round staple at = tt
+
+round_letters_aged : (A : TxnId → ℕ → Type 0) (place : ℕ) (c : Coordinator) (over : Span) (turn : ℕ) (round : Round) (staple : Staple) → Each (LetterAged A place) (coord.round_letters c over turn round staple)
+round_letters_aged A place c over turn round staple = all_ageless A place (coord.round_letter c over turn round staple) (round_letter_aged A place c over turn round staple) (coord.awaited_in round)
+
+vote_letters_aged : (A : TxnId → ℕ → Type 0) (place : ℕ) (c : Coordinator) (turn : ℕ) (servers : List ServerId) → Each (LetterAged A place) (coord.vote_letters c turn servers)
+vote_letters_aged A place c turn servers = all_ageless A place (coord.vote_letter c turn) (λ at. tt) servers
 
 pub orders_aged : (A : TxnId → ℕ → Type 0) (place : ℕ) (c : Coordinator) (ended : Outcome) (servers : List ServerId)
     → Each (LetterAged A place) (map (λ (at : ServerId). coord.request c at (body.Decide (record { txn = c.txn; outcome = ended }))) servers)
@@ -144,35 +167,35 @@ coordinator_row_ages A place sc c mail h =
       stapled = λ tell query home k at.
           let age_known = h.known (ap is_running k.stapling) in
           record { same_age = refl; known = λ running. age_known; same_txn = refl; letters = (told_age A c.txn c.age place age_known h.age, tt) };
-      sends_query = λ query now next passed moves home.
-          let age_known = known query now passed in
+      sends_query = λ at now rounds next passed moves home.
+          let age_known = known at now rounds passed in
           record { same_age = refl; known = λ running. age_known; same_txn = refl; letters = (told_age A c.txn c.age place age_known h.age, tt) };
-      asks_staple = λ query now passed moves. record { same_age = refl; known = λ running. known query now passed; same_txn = refl; letters = (tt, tt) };
-      commit_rounds = λ query now passed moves. record { same_age = refl; known = λ running. known query now passed; same_txn = refl; letters = (tt, tt) };
-      told = λ tell round k.
+      asks_staple = λ at now rounds passed moves. record { same_age = refl; known = λ running. known at now rounds passed; same_txn = refl; letters = (tt, tt) };
+      probes_proofs = λ at now rounds passed moves. record { same_age = refl; known = λ running. known at now rounds passed; same_txn = refl; letters = (tt, tt) };
+      validates = λ at now rounds passed moves. record { same_age = refl; known = λ running. known at now rounds passed; same_txn = refl; letters = (tt, tt) };
+      commit_rounds = λ at now rounds passed moves. record { same_age = refl; known = λ running. known at now rounds passed; same_txn = refl; letters = (tt, tt) };
+      asks_votes = λ at now rounds passed moves. record { same_age = refl; known = λ running. known at now rounds passed; same_txn = refl; letters = vote_letters_aged A place (with_gained c now) (coord.next_turn c) c.servers };
+      decides = λ at now rounds passed moves. record { same_age = refl; known = λ running. absurd (cc); same_txn = refl; letters = orders_aged A place c outcome.Commit c.servers };
+      aborted = λ why ended. record { same_age = refl; known = λ running. absurd (cc); same_txn = refl; letters = orders_aged A place c outcome.Abort c.servers };
+      told = λ tell over round k.
           record {
             same_age = refl;
             known = λ running. h.known (ap is_running k.asking);
             same_txn = refl;
-            letters = prepare_letters_aged A place c (coord.next_turn c) round (coord.staple_of tell mail.sent) (coord.awaited_in round);
+            letters = round_letters_aged A place c over (coord.next_turn c) round (coord.staple_of tell mail.sent);
           };
-      counted = λ reply round staple server verdicts y. record { same_age = refl; known = λ running. h.known (ap is_running y.checking); same_txn = refl; letters = tt };
-      probed = λ reply round staple server verdicts y whole reads. record { same_age = refl; known = λ running. h.known (ap is_running y.checking); same_txn = refl; letters = (tt, tt) };
-      decides = λ instances rounds passed. record { same_age = refl; known = λ running. absurd (cc); same_txn = refl; letters = orders_aged A place c outcome.Commit c.servers };
-      aborted = λ why ended. record { same_age = refl; known = λ running. absurd (cc); same_txn = refl; letters = orders_aged A place c outcome.Abort c.servers };
-      updated = λ round staple reading named j e. record { same_age = refl; known = λ running. judged_known round staple reading j; same_txn = refl; letters = (tt, tt) };
+      counted = λ over round staple server verdicts y. record { same_age = refl; known = λ running. h.known (ap is_running (reply_checking c mail over round staple server verdicts y)); same_txn = refl; letters = tt };
+      probed = λ over round staple server verdicts y whole reads.
+          record { same_age = refl; known = λ running. h.known (ap is_running (reply_checking c mail over round staple server verdicts y)); same_txn = refl; letters = (tt, tt) };
+      updated = λ over round staple reading named j e. record { same_age = refl; known = λ running. h.known (judged_running c mail over round staple reading j); same_txn = refl; letters = (tt, tt) };
+      voted = λ reply awaited server verdicts k. record { same_age = refl; known = λ running. h.known (ap is_running k.voting); same_txn = refl; letters = tt };
       acknowledged = λ ack ended awaited server a. record { same_age = refl; known = λ running. absurd (cc); same_txn = refl; letters = tt };
       inquired = λ inquiry ended awaited server k. record { same_age = refl; known = h.known; same_txn = refl; letters = orders_aged A place c ended (server ∷ []) };
     })
   where
-    -- where a query ran, the age is known
-    known : (query : ℕ) (now : Gained) → IsPassed sc c mail (point.Ran query) now → is_some c.age ≡ true
-    known _ _ (QueryRan done server asked value proof k) = h.known (ap is_running (awaits_is c c.phase done k.awaited).1)
-
-    -- and where a round is judged
-    judged_known : (round : Round) (staple : Option Staple) (reading : Option Reading) → IsJudged c mail round staple reading → is_some c.age ≡ true
-    judged_known _ _ _ (ByVotes reply round staple server verdicts y whole unread) = h.known (ap is_running y.checking)
-    judged_known _ _ _ (ByReading reply round k) = h.known (ap is_running k.reading)
+    -- where a point is passed, the age is known
+    known : (at : Point) (now : Gained) (rounds : ℕ) → IsPassed sc c mail at now rounds → is_some c.age ≡ true
+    known at now rounds passed = h.known (passed_running sc c mail at now rounds passed)
 
 -- ---- Submit
 
@@ -208,7 +231,9 @@ repeats_aged A place sc c h =
       stapled = λ number stapling. (tt, tt);
       queried = λ number staple server querying home. (told_age A c.txn c.age place (h.known (ap is_running querying)) h.age, tt);
       asked = λ over round asking. (tt, tt);
-      prepared = λ round staple checking. prepare_letters_aged A place c c.turn round staple (coord.awaited_in round);
+      prepared = λ over round staple checking. round_letters_aged A place c over c.turn round staple;
+      probed = λ at probing. (tt, tt);
       read = λ over round reading. (tt, tt);
+      voted = λ awaited voting. vote_letters_aged A place c c.turn awaited;
       ordered = λ ended awaited ending. orders_aged A place c ended awaited;
     })

@@ -17,20 +17,23 @@ use Rattle.tp_model.specs.Words.decision
 use Rattle.tp_model.specs.Words.log
 use Rattle.tp_model.specs.Words.outcome
 use Rattle.tp_model.specs.Words.vote
-use Rattle.tp_model.specs.Words.{AckReply, Actor, Body, Cause, DecideRequest, Decision, DoneReply, InquireRequest, Instance, Item, Letter, Mail, Outcome, Query, Reading, Record, Scenario, ServerId, Staple, Transaction, TxnId, Verdict, Vote, VoteReply}
-use Rattle.tp_runs.proofs.basics.Homes.{IsHome, home_is}
+use Rattle.tp_model.specs.Words.{AckReply, Actor, Body, Cause, DecideRequest, Decision, InquireRequest, Item, Letter, Mail, Outcome, Query, Reading, Record, Scenario, ServerId, Staple, Transaction, TxnId, Verdict, Vote, VoteReply}
+use Rattle.tp_runs.proofs.basics.Homes.{IsHome, decided_voted, home_is, is_probed, is_voted, probed_there}
 use Rattle.tp_runs.proofs.basics.Ids.{same_server_is}
-use Rattle.tp_types.proofs.EachLemmas.{each_as, each_filter}
+use Rattle.tp_types.proofs.EachLemmas.{each_as, each_filter, each_map}
+use Rattle.tp_runs.proofs.basics.Passed.{ended_running, passed_running}
+use Rattle.tp_runs.proofs.basics.Phases.{is_running}
 use Rattle.tp_runs.proofs.basics.Rounds.{EachServer, all_in, each_missing, each_renewed, each_replied, each_started, is_in, missing_in, none_missing, replied_is, updated_is}
-use Rattle.tp_runs.proofs.basics.Servers.{servers_over_have}
+use Rattle.tp_runs.proofs.basics.Servers.{servers_over_have, servers_upto_each}
 use Rattle.tp_runs.proofs.basics.Logs.{appended, decided_with}
 use Rattle.tp_scheme.specs.declared.moves.Point.TheVariants as point
-use Rattle.tp_coord.proofs.Rows.{AllTrue, ByDenial, ByLoss, ByOlder, ByProof, ByReading, ByRefusal, ByRestart, ByRounds, ByVotes, Gained, HasVoted, IsAck, IsEnded, IsInquiry, IsJudged, IsPassed, IsYes, QueryRan, coordinator_by, gains_instances, submit_by, timer_by, with_gained}
+use Rattle.tp_scheme.specs.declared.moves.Point.{Point}
+use Rattle.tp_coord.proofs.Rows.{AfterQuery, AfterVotes, AllTrue, AllVoted, ByReading, ByReplies, ByVerdicts, ByVote, Gained, IsAck, IsInquiry, IsJudged, IsPassed, IsPlainYes, IsProbing, IsReply, ProofsRead, QueryRan, coordinator_by, submit_by, timer_by, with_gained}
 use Rattle.tp_recover.specs.Log.{decided_in, decision_in}
 use Rattle.tp_machine.specs.Machine.{log_with, with_age}
 use Rattle.tp_types.specs.Each.{Each}
 use Rattle.tp_coord.specs.Opened.{servers_at}
-use Rattle.tp_coord.specs.Row.{aborts, asks, asks_in, awaits_query, commit_round, commits, coordinator_row, decide_letters, is_begun, next_number, next_turn, prepare_letter, prepares, probes, own_query, repeats, request, sends_query, server_of, staple_of, submit_row, without}
+use Rattle.tp_coord.specs.Row.{aborts, asks, asks_in, asks_votes, checks, commit_round, commits, coordinator_row, decide_letters, is_begun, next_at, next_turn, number_at, point_of, probes, probing_at, own_query, repeats, request, round_letter, round_letters, sends_query, server_of, servers_upto, staple_of, submit_row, validation_round, vote_letter, vote_letters, voting, without}
 use Rattle.tp_coord.specs.State.{Coordinator}
 use Rattle.tp_coord.specs.declared.coordinator.Phase.TheVariants as phase
 use Rattle.tp_coord.specs.declared.coordinator.Phase.{Phase}
@@ -285,9 +288,9 @@ ignores_lawful_in_coordinator : (sc : Scenario) (P S : ServerId → Type 0) (c :
 ignores_lawful_in_coordinator sc P S c kept h = record { agrees = h.agrees; replied = h.replied; same_begun = refl; same_txn = refl; fresh = tt; letters = tt }
 
 -- the authority is asked by a coordinator that has not decided, before a round of which this holds
-asks_lawful : (sc : Scenario) (P S : ServerId → Type 0) (c : Coordinator) (kept : List Record) (round : Round) → decided_in kept ≡ None → is_begun c.phase ≡ true → c.servers ≡ servers_at sc c.txn
-    → EachServer (HoldsItem sc c.txn) round.targets → AllBut P (missing_in round.targets) (servers_at sc c.txn) → CoordinatorLawful sc P S c kept (asks c span.Commit round)
-asks_lawful sc P S c kept round d b s items replied =
+asks_lawful : (sc : Scenario) (P S : ServerId → Type 0) (c : Coordinator) (kept : List Record) (over : Span) (round : Round) → decided_in kept ≡ None → is_begun c.phase ≡ true → c.servers ≡ servers_at sc c.txn
+    → EachServer (HoldsItem sc c.txn) round.targets → SpanRests P over (missing_in round.targets) (servers_at sc c.txn) → CoordinatorLawful sc P S c kept (asks c over round)
+asks_lawful sc P S c kept over round d b s items replied =
     record {
       agrees = record { decided = d; servers = s; awaited = items };
       replied = replied;
@@ -315,16 +318,28 @@ sends_query_lawful sc P S c kept number staple at d b s k =
       letters = (record { same_txn = refl; item = asked_has_item sc c number k.asked at k.asked_is k.server_is; submitted = refl }, tt);
     }
 
-prepare_letters_lawful : (sc : Scenario) (c : Coordinator) (begun : Bool) (decided : Option Decision) (turn : ℕ) (round : Round) (staple : Staple) (servers : List ServerId) → begun ≡ true → HaveItems sc c.txn servers
-    → Each (LetterAgrees sc c.txn begun decided) (map (prepare_letter c turn round staple) servers)
-prepare_letters_lawful sc c begun decided turn round staple [] b h = tt
-prepare_letters_lawful sc c begun decided turn round staple (at ∷ servers) b h =
-    (record { same_txn = refl; item = h.0; submitted = b }, prepare_letters_lawful sc c begun decided turn round staple servers b h.1)
+-- a request in a round
+round_letter_lawful : (sc : Scenario) (c : Coordinator) (begun : Bool) (decided : Option Decision) (over : Span) (turn : ℕ) (round : Round) (staple : Staple) (at : ServerId) → begun ≡ true → HoldsItem sc c.txn at
+    → LetterAgrees sc c.txn begun decided (round_letter c over turn round staple at)
+round_letter_lawful sc c begun decided (span.Validate number) turn round staple at b item = record { same_txn = refl; item = item; submitted = b }
+round_letter_lawful sc c begun decided span.Commit turn round staple at b item = record { same_txn = refl; item = item; submitted = b }
 
--- each awaited server is asked to prepare
-prepares_lawful : (sc : Scenario) (P S : ServerId → Type 0) (c : Coordinator) (kept : List Record) (round : Round) (staple : Staple) → Keeps sc P S c kept → c.phase ≡ phase.Asking span.Commit round
-    → CoordinatorLawful sc P S c kept (prepares c span.Commit round staple)
-prepares_lawful sc P S c kept round staple h e =
+round_letters_lawful : (sc : Scenario) (c : Coordinator) (begun : Bool) (decided : Option Decision) (over : Span) (turn : ℕ) (round : Round) (staple : Staple) → begun ≡ true → EachServer (HoldsItem sc c.txn) round.targets
+    → Each (LetterAgrees sc c.txn begun decided) (round_letters c over turn round staple)
+round_letters_lawful sc c begun decided over turn round staple b items =
+    each_map (HoldsItem sc c.txn) (LetterAgrees sc c.txn begun decided) (round_letter c over turn round staple) (λ at item. round_letter_lawful sc c begun decided over turn round staple at b item) (missing_in round.targets)
+    (each_missing (HoldsItem sc c.txn) round.targets items)
+
+-- requests to prepare without an evaluation
+vote_letters_lawful : (sc : Scenario) (c : Coordinator) (begun : Bool) (decided : Option Decision) (turn : ℕ) (servers : List ServerId) → begun ≡ true → HaveItems sc c.txn servers
+    → Each (LetterAgrees sc c.txn begun decided) (vote_letters c turn servers)
+vote_letters_lawful sc c begun decided turn servers b items =
+    each_map (HoldsItem sc c.txn) (LetterAgrees sc c.txn begun decided) (vote_letter c turn) (λ at item. record { same_txn = refl; item = item; submitted = b }) servers items
+
+-- each awaited server of a round is asked
+checks_lawful : (sc : Scenario) (P S : ServerId → Type 0) (c : Coordinator) (kept : List Record) (over : Span) (round : Round) (staple : Staple) → Keeps sc P S c kept → c.phase ≡ phase.Asking over round
+    → CoordinatorLawful sc P S c kept (checks c over round staple)
+checks_lawful sc P S c kept over round staple h e =
     let items : EachServer (HoldsItem sc c.txn) round.targets = subst (PhaseHasItems sc c.txn) e h.agrees.awaited in
     record {
       agrees = record { decided = subst (λ (p : Phase). PhaseAgrees p (decided_in kept)) e h.agrees.decided; servers = h.agrees.servers; awaited = items };
@@ -332,8 +347,37 @@ prepares_lawful sc P S c kept round staple h e =
       same_begun = sym (ap is_begun e);
       same_txn = refl;
       fresh = tt;
-      letters = prepare_letters_lawful sc c true (decided_in kept) (next_turn c) round staple (missing_in round.targets) refl (each_missing (HoldsItem sc c.txn) round.targets items);
+      letters = round_letters_lawful sc c true (decided_in kept) over (next_turn c) round staple refl items;
     }
+
+-- all servers are asked to prepare without an evaluation
+asks_votes_lawful : (sc : Scenario) (P S : ServerId → Type 0) (c : Coordinator) (kept : List Record) → decided_in kept ≡ None → is_begun c.phase ≡ true → c.servers ≡ servers_at sc c.txn
+    → CoordinatorLawful sc P S c kept (asks_votes c)
+asks_votes_lawful sc P S c kept d b s =
+    let items : HaveItems sc c.txn c.servers = subst (HaveItems sc c.txn) (sym s) (servers_at_have_items sc c.txn) in
+    record {
+      agrees = record { decided = d; servers = s; awaited = items };
+      replied = subst (λ (servers : List ServerId). AllBut P servers (servers_at sc c.txn)) (sym s) (all_but_all P (servers_at sc c.txn));
+      same_begun = sym b;
+      same_txn = refl;
+      fresh = tt;
+      letters = vote_letters_lawful sc c true (decided_in kept) (next_turn c) c.servers refl items;
+    }
+
+-- the master is asked for the proofs so far: after a query, or after the votes, and then each server has prepared
+proofs_lawful : (sc : Scenario) (P S : ServerId → Type 0) (c : Coordinator) (kept : List Record) (at : Point) → decided_in kept ≡ None → is_begun c.phase ≡ true → c.servers ≡ servers_at sc c.txn → is_probed at ≡ true
+    → (is_voted at ≡ true → AllBut P [] (servers_at sc c.txn)) → CoordinatorLawful sc P S c kept (probes c (probing_at at))
+proofs_lawful sc P S c kept (point.Ran number) d b s e rests = record { agrees = record { decided = d; servers = s; awaited = tt }; replied = tt; same_begun = sym b; same_txn = refl; fresh = tt; letters = (tt, tt) }
+proofs_lawful sc P S c kept point.Voted d b s e rests = record { agrees = record { decided = d; servers = s; awaited = tt }; replied = rests refl; same_begun = sym b; same_txn = refl; fresh = tt; letters = (tt, tt) }
+proofs_lawful sc P S c kept (point.Begun number) d b s e rests = absurd (cc)
+proofs_lawful sc P S c kept (point.Stapled number) d b s e rests = absurd (cc)
+proofs_lawful sc P S c kept (point.Read number) d b s e rests = absurd (cc)
+proofs_lawful sc P S c kept (point.Validated number) d b s e rests = absurd (cc)
+proofs_lawful sc P S c kept point.VoteRead d b s e rests = absurd (cc)
+
+-- what a coordinator does with what it gained, the coordinator does
+gained_lawful : (sc : Scenario) (P S : ServerId → Type 0) (c : Coordinator) (now : Gained) (kept : List Record) (effect : Effect Coordinator) → CoordinatorLawful sc P S (with_gained c now) kept effect → CoordinatorLawful sc P S c kept effect
+gained_lawful sc P S c now kept effect on = record { agrees = on.agrees; replied = on.replied; same_begun = on.same_begun; same_txn = on.same_txn; fresh = on.fresh; letters = on.letters }
 
 -- an order to each of these servers
 pub orders_lawful : (sc : Scenario) (txn : TxnId) (begun : Bool) (decided : Option Decision) (ended : Outcome) (c : Coordinator) (servers : List ServerId) → c.txn ≡ txn → begun ≡ true
@@ -346,19 +390,19 @@ orders_lawful sc txn begun decided ended c (at ∷ servers) same b d h = (
 )
 
 -- a commit is forced where nothing was decided and all have prepared, and then sent
-commits_lawful : (sc : Scenario) (P S : ServerId → Type 0) (c : Coordinator) (kept : List Record) (instances : List Instance) (rounds : ℕ) → Keeps sc P S c kept → decided_in kept ≡ None
-    → is_begun c.phase ≡ true → Each P (servers_at sc c.txn) → CoordinatorLawful sc P S c kept (commits (with_gained c (gains_instances c instances)) rounds)
-commits_lawful sc P S c kept instances rounds h d b prepared =
-    let forced = (commits (with_gained c (gains_instances c instances)) rounds).reaction.append in
-    let now : option_map outcome_of (decided_in (log_with kept forced)) ≡ Some outcome.Commit = ap (option_map outcome_of) (decided_with kept forced ∙ ap (λ z. option_or z (appended decision_in forced)) d) in
+commits_lawful : (sc : Scenario) (P S : ServerId → Type 0) (c : Coordinator) (kept : List Record) (now : Gained) (rounds : ℕ) → Keeps sc P S c kept → decided_in kept ≡ None
+    → is_begun c.phase ≡ true → Each P (servers_at sc c.txn) → CoordinatorLawful sc P S c kept (commits (with_gained c now) rounds)
+commits_lawful sc P S c kept now rounds h d b prepared =
+    let forced = (commits (with_gained c now) rounds).reaction.append in
+    let ended : option_map outcome_of (decided_in (log_with kept forced)) ≡ Some outcome.Commit = ap (option_map outcome_of) (decided_with kept forced ∙ ap (λ z. option_or z (appended decision_in forced)) d) in
     let items : HaveItems sc c.txn c.servers = subst (HaveItems sc c.txn) (sym h.agrees.servers) (servers_at_have_items sc c.txn) in
     record {
-      agrees = record { decided = now; servers = h.agrees.servers; awaited = items };
+      agrees = record { decided = ended; servers = h.agrees.servers; awaited = items };
       replied = subst (λ (servers : List ServerId). AllBut S servers (servers_at sc c.txn)) (sym h.agrees.servers) (all_but_all S (servers_at sc c.txn));
       same_begun = sym b;
       same_txn = refl;
       fresh = record { undecided = d; own = refl; prepared = prepared };
-      letters = orders_lawful sc c.txn true (decided_in (log_with kept forced)) outcome.Commit c c.servers refl refl now items;
+      letters = orders_lawful sc c.txn true (decided_in (log_with kept forced)) outcome.Commit c c.servers refl refl ended items;
     }
 
 -- an abort is forced where nothing was decided, and then sent
@@ -377,72 +421,130 @@ aborts_lawful sc P S c kept why h d b =
       letters = orders_lawful sc c.txn true (decided_in (log_with kept forced)) outcome.Abort c c.servers refl refl now items;
     }
 
--- what is known where a vote YES is awaited and comes
-record IsCounted (sc : Scenario) (P S : ServerId → Type 0) (c : Coordinator) (kept : List Record) (round : Round) : Type 0 where
+-- what is known where a reply in a round is awaited and comes
+record IsCounted (sc : Scenario) (P S : ServerId → Type 0) (c : Coordinator) (kept : List Record) (over : Span) (round : Round) : Type 0 where
   pub undecided : decided_in kept ≡ None
   pub begun : is_begun c.phase ≡ true
   pub items : EachServer (HoldsItem sc c.txn) round.targets
-  pub prepared : AllBut P (missing_in round.targets) (servers_at sc c.txn)
+  pub prepared : SpanRests P over (missing_in round.targets) (servers_at sc c.txn)
 
-yes_counted : (sc : Scenario) (P S : ServerId → Type 0) (c : Coordinator) (kept : List Record) (mail : Mail) (reply : VoteReply) (round : Round) (staple : Staple) (server : ServerId) (verdicts : List Verdict)
-    → Keeps sc P S c kept → ReplyRests P S (HoldsItem sc c.txn) (decided_in kept) mail.letter.from mail.letter.body → IsYes c mail reply round staple server verdicts → IsCounted sc P S c kept (after_reply round server verdicts)
-yes_counted sc P S c kept mail reply round staple server verdicts h m y =
-    let undecided : decided_in kept ≡ None = subst (λ (p : Phase). PhaseAgrees p (decided_in kept)) y.checking h.agrees.decided in
+-- who votes YES has prepared, while nothing is decided
+yes_prepared : (sc : Scenario) (P S : ServerId → Type 0) (c : Coordinator) (kept : List Record) (mail : Mail) (reply : VoteReply) (server : ServerId) (verdicts : List Verdict)
+    → ReplyRests P S (HoldsItem sc c.txn) (decided_in kept) mail.letter.from mail.letter.body → mail.letter.body ≡ body.Vote reply → mail.letter.from ≡ actor.Server server → reply.vote ≡ vote.Yes verdicts → decided_in kept ≡ None → P server
+yes_prepared sc P S c kept mail reply server verdicts m said from voted =
     let rests : YesRests (decided_in kept ≡ None → P server) reply.vote =
-    subst (λ (said : Body). ReplyRests P S (HoldsItem sc c.txn) (decided_in kept) (actor.Server server) said) y.said_is (subst (λ (from : Actor). ReplyRests P S (HoldsItem sc c.txn) (decided_in kept) from mail.letter.body) y.from_is m) in
-    let prepared : decided_in kept ≡ None → P server = subst (YesRests (decided_in kept ≡ None → P server)) y.vote_is rests in
+    subst (λ (heard : Body). ReplyRests P S (HoldsItem sc c.txn) (decided_in kept) (actor.Server server) heard) said (subst (λ (sender : Actor). ReplyRests P S (HoldsItem sc c.txn) (decided_in kept) sender mail.letter.body) from m) in
+    subst (YesRests (decided_in kept ≡ None → P server)) voted rests
+
+reply_counted : (sc : Scenario) (P S : ServerId → Type 0) (c : Coordinator) (kept : List Record) (mail : Mail) (over : Span) (round : Round) (staple : Staple) (server : ServerId) (verdicts : List Verdict) → Keeps sc P S c kept
+    → ReplyRests P S (HoldsItem sc c.txn) (decided_in kept) mail.letter.from mail.letter.body → IsReply c mail over round staple server verdicts → IsCounted sc P S c kept over (after_reply round server verdicts)
+reply_counted sc P S c kept mail _ _ _ _ _ h m (ByVote reply round staple server verdicts y) =
+    let undecided : decided_in kept ≡ None = subst (λ (p : Phase). PhaseAgrees p (decided_in kept)) y.checking h.agrees.decided in
     record {
       undecided = undecided;
       begun = ap is_begun y.checking;
       items = each_replied (HoldsItem sc c.txn) round.targets server verdicts (subst (PhaseHasItems sc c.txn) y.checking h.agrees.awaited);
-      prepared = all_but_reply P round server verdicts (servers_at sc c.txn) (prepared undecided) (subst (λ (p : Phase). PhaseRests P S p (servers_at sc c.txn)) y.checking h.replied);
+      prepared = all_but_reply P round server verdicts (servers_at sc c.txn) (yes_prepared sc P S c kept mail reply server verdicts m y.said_is y.from_is y.vote_is undecided)
+          (subst (λ (p : Phase). PhaseRests P S p (servers_at sc c.txn)) y.checking h.replied);
+    }
+reply_counted sc P S c kept mail _ _ _ _ _ h m (ByVerdicts reply number round staple server verdicts y) =
+    record {
+      undecided = subst (λ (p : Phase). PhaseAgrees p (decided_in kept)) y.checking h.agrees.decided;
+      begun = ap is_begun y.checking;
+      items = each_replied (HoldsItem sc c.txn) round.targets server verdicts (subst (PhaseHasItems sc c.txn) y.checking h.agrees.awaited);
+      prepared = tt;
     }
 
--- where a reply of all has come each server has prepared
-whole_prepared : (sc : Scenario) (P S : ServerId → Type 0) (c : Coordinator) (kept : List Record) (round : Round) → IsCounted sc P S c kept round → list_any is_missing round.targets ≡ false → Each P (servers_at sc c.txn)
-whole_prepared sc P S c kept round k whole = none_awaited P (servers_at sc c.txn) (subst (λ (missing : List ServerId). AllBut P missing (servers_at sc c.txn)) (none_missing round.targets whole) k.prepared)
+-- where a reply of all has come each server has prepared, in a round at commit
+whole_rests : (sc : Scenario) (P S : ServerId → Type 0) (c : Coordinator) (kept : List Record) (over : Span) (round : Round) → IsCounted sc P S c kept over round → list_any is_missing round.targets ≡ false → SpanRests P over [] (servers_at sc c.txn)
+whole_rests sc P S c kept over round k whole = subst (λ (missing : List ServerId). SpanRests P over missing (servers_at sc c.txn)) (none_missing round.targets whole) k.prepared
+
+-- so it has whoever is asked again
+rests_again : (P : ServerId → Type 0) (over : Span) (missing servers : List ServerId) → SpanRests P over [] servers → SpanRests P over missing servers
+rests_again P (span.Validate number) missing servers h = tt
+rests_again P span.Commit missing servers h = each_as (λ (at : ServerId). is_in [] at ≡ false → P at) (λ (at : ServerId). is_in missing at ≡ false → P at) (λ at replied left. replied refl) servers h
 
 -- the master is read once all have replied
-probes_lawful : (sc : Scenario) (P S : ServerId → Type 0) (c : Coordinator) (kept : List Record) (round : Round) → c.servers ≡ servers_at sc c.txn → IsCounted sc P S c kept round → list_any is_missing round.targets ≡ false
-    → CoordinatorLawful sc P S c kept (probes c (phase.Reading span.Commit round))
-probes_lawful sc P S c kept round s k whole =
+probes_lawful : (sc : Scenario) (P S : ServerId → Type 0) (c : Coordinator) (kept : List Record) (over : Span) (round : Round) → c.servers ≡ servers_at sc c.txn → IsCounted sc P S c kept over round → list_any is_missing round.targets ≡ false
+    → CoordinatorLawful sc P S c kept (probes c (phase.Reading over round))
+probes_lawful sc P S c kept over round s k whole =
     record {
       agrees = record { decided = k.undecided; servers = s; awaited = k.items };
-      replied = subst (λ (missing : List ServerId). AllBut P missing (servers_at sc c.txn)) (none_missing round.targets whole) k.prepared;
+      replied = whole_rests sc P S c kept over round k whole;
       same_begun = sym k.begun;
       same_txn = refl;
       fresh = tt;
       letters = (tt, tt);
     }
 
--- what is known where a round is judged: each server has prepared
-record IsWhole (sc : Scenario) (P S : ServerId → Type 0) (c : Coordinator) (kept : List Record) (round : Round) : Type 0 where
+-- what is known where a round is judged: at commit each server has prepared
+record IsWhole (sc : Scenario) (P S : ServerId → Type 0) (c : Coordinator) (kept : List Record) (over : Span) (round : Round) : Type 0 where
   pub undecided : decided_in kept ≡ None
   pub begun : is_begun c.phase ≡ true
   pub items : EachServer (HoldsItem sc c.txn) round.targets
-  pub prepared : Each P (servers_at sc c.txn)
+  pub prepared : SpanRests P over [] (servers_at sc c.txn)
 
-judged_counted : (sc : Scenario) (P S : ServerId → Type 0) (c : Coordinator) (kept : List Record) (mail : Mail) (round : Round) (staple : Option Staple) (reading : Option Reading)
-    → Keeps sc P S c kept → ReplyRests P S (HoldsItem sc c.txn) (decided_in kept) mail.letter.from mail.letter.body → IsJudged c mail round staple reading → IsWhole sc P S c kept round
-judged_counted sc P S c kept mail _ _ _ h m (ByVotes reply round staple server verdicts y whole unread) =
-    let k = yes_counted sc P S c kept mail reply round staple server verdicts h m y in
-    record { undecided = k.undecided; begun = k.begun; items = k.items; prepared = whole_prepared sc P S c kept (after_reply round server verdicts) k whole }
-judged_counted sc P S c kept mail _ _ _ h m (ByReading reply round k) =
+judged_counted : (sc : Scenario) (P S : ServerId → Type 0) (c : Coordinator) (kept : List Record) (mail : Mail) (over : Span) (round : Round) (staple : Option Staple) (reading : Option Reading)
+    → Keeps sc P S c kept → ReplyRests P S (HoldsItem sc c.txn) (decided_in kept) mail.letter.from mail.letter.body → IsJudged c mail over round staple reading → IsWhole sc P S c kept over round
+judged_counted sc P S c kept mail _ _ _ _ h m (ByReplies over round staple server verdicts y whole unread) =
+    let k = reply_counted sc P S c kept mail over round staple server verdicts h m y in
+    record { undecided = k.undecided; begun = k.begun; items = k.items; prepared = whole_rests sc P S c kept over (after_reply round server verdicts) k whole }
+judged_counted sc P S c kept mail _ _ _ _ h m (ByReading reply over round k) =
     record {
       undecided = subst (λ (p : Phase). PhaseAgrees p (decided_in kept)) k.reading h.agrees.decided;
       begun = ap is_begun k.reading;
       items = subst (PhaseHasItems sc c.txn) k.reading h.agrees.awaited;
-      prepared = none_awaited P (servers_at sc c.txn) (subst (λ (p : Phase). PhaseRests P S p (servers_at sc c.txn)) k.reading h.replied);
+      prepared = subst (λ (p : Phase). PhaseRests P S p (servers_at sc c.txn)) k.reading h.replied;
     }
 
 -- the next round after an update
-updated_lawful : (sc : Scenario) (P S : ServerId → Type 0) (c : Coordinator) (kept : List Record) (round : Round) (reading : Option Reading) (named : List Wanted) → IsWhole sc P S c kept round → c.servers ≡ servers_at sc c.txn
-    → judge round reading ≡ judged.Update named → CoordinatorLawful sc P S c kept (asks c span.Commit (after_judgement round reading))
-updated_lawful sc P S c kept round reading named k s e =
+updated_lawful : (sc : Scenario) (P S : ServerId → Type 0) (c : Coordinator) (kept : List Record) (over : Span) (round : Round) (reading : Option Reading) (named : List Wanted) → IsWhole sc P S c kept over round → c.servers ≡ servers_at sc c.txn
+    → judge round reading ≡ judged.Update named → CoordinatorLawful sc P S c kept (asks c over (after_judgement round reading))
+updated_lawful sc P S c kept over round reading named k s e =
     let next = next_round round (aim_in round reading) named (mets_in round (met_in round reading)) in
-    subst (λ (r : Round). CoordinatorLawful sc P S c kept (asks c span.Commit r)) (sym (updated_is round reading named e))
-    (asks_lawful sc P S c kept next k.undecided k.begun s (each_renewed (HoldsItem sc c.txn) (aim_in round reading) round.targets k.items)
-    (each_as P (λ (at : ServerId). is_in (missing_in next.targets) at ≡ false → P at) (λ at p left. p) (servers_at sc c.txn) k.prepared))
+    subst (λ (r : Round). CoordinatorLawful sc P S c kept (asks c over r)) (sym (updated_is round reading named e))
+    (asks_lawful sc P S c kept over next k.undecided k.begun s (each_renewed (HoldsItem sc c.txn) (aim_in round reading) round.targets k.items)
+    (rests_again P over (missing_in next.targets) (servers_at sc c.txn) k.prepared))
+
+-- a vote YES without an evaluation: who is awaited no more has prepared
+plain_rests : (sc : Scenario) (P S : ServerId → Type 0) (c : Coordinator) (kept : List Record) (mail : Mail) (reply : VoteReply) (awaited : List ServerId) (server : ServerId) (verdicts : List Verdict) → Keeps sc P S c kept
+    → ReplyRests P S (HoldsItem sc c.txn) (decided_in kept) mail.letter.from mail.letter.body → IsPlainYes c mail reply awaited server verdicts → AllBut P (without awaited server) (servers_at sc c.txn)
+plain_rests sc P S c kept mail reply awaited server verdicts h m y =
+    let undecided : decided_in kept ≡ None = subst (λ (p : Phase). PhaseAgrees p (decided_in kept)) y.voting h.agrees.decided in
+    all_but_one P awaited server (servers_at sc c.txn) (yes_prepared sc P S c kept mail reply server verdicts m y.said_is y.from_is y.vote_is undecided) (subst (λ (p : Phase). PhaseRests P S p (servers_at sc c.txn)) y.voting h.replied)
+
+voted_lawful : (sc : Scenario) (P S : ServerId → Type 0) (c : Coordinator) (kept : List Record) (mail : Mail) (reply : VoteReply) (awaited : List ServerId) (server : ServerId) (verdicts : List Verdict) → Keeps sc P S c kept
+    → ReplyRests P S (HoldsItem sc c.txn) (decided_in kept) mail.letter.from mail.letter.body → IsPlainYes c mail reply awaited server verdicts → CoordinatorLawful sc P S c kept (sends (voting c (without awaited server)) [])
+voted_lawful sc P S c kept mail reply awaited server verdicts h m y =
+    record {
+      agrees = record {
+        decided = subst (λ (p : Phase). PhaseAgrees p (decided_in kept)) y.voting h.agrees.decided;
+        servers = h.agrees.servers;
+        awaited = left_have_items sc c.txn awaited server (subst (PhaseHasItems sc c.txn) y.voting h.agrees.awaited);
+      };
+      replied = plain_rests sc P S c kept mail reply awaited server verdicts h m y;
+      same_begun = sym (ap is_begun y.voting);
+      same_txn = refl;
+      fresh = tt;
+      letters = tt;
+    }
+
+over_rests : (P : ServerId → Type 0) (over : Span) (servers : List ServerId) → is_voted (point_of over) ≡ true → SpanRests P over [] servers → AllBut P [] servers
+over_rests P (span.Validate number) servers e h = absurd (cc)
+over_rests P span.Commit servers e h = h
+
+probing_rests : (P S : ServerId → Type 0) (awaited : Phase) (at : Point) (servers : List ServerId) → IsProbing awaited at → is_voted at ≡ true → PhaseRests P S awaited servers → AllBut P [] servers
+probing_rests P S _ _ servers (AfterQuery number) e h = absurd (cc)
+probing_rests P S _ _ servers AfterVotes e h = h
+
+-- where all have voted, each server has prepared
+voted_rests : (sc : Scenario) (P S : ServerId → Type 0) (c : Coordinator) (kept : List Record) (mail : Mail) (at : Point) (now : Gained) (rounds : ℕ) → Keeps sc P S c kept
+    → ReplyRests P S (HoldsItem sc c.txn) (decided_in kept) mail.letter.from mail.letter.body → IsPassed sc c mail at now rounds → is_voted at ≡ true → AllBut P [] (servers_at sc c.txn)
+voted_rests sc P S c kept mail _ _ _ h m (QueryRan done server asked value proof k) e = absurd (cc)
+voted_rests sc P S c kept mail _ _ _ h m (ProofsRead reply at k none) e = probing_rests P S c.phase at (servers_at sc c.txn) k.probing e h.replied
+voted_rests sc P S c kept mail _ _ _ h m (AllTrue over round staple reading k) e = over_rests P over (servers_at sc c.txn) e (judged_counted sc P S c kept mail over round staple reading h m k.is_judged).prepared
+voted_rests sc P S c kept mail _ _ _ h m (AllVoted reply awaited server verdicts k left) e =
+    subst (λ (missing : List ServerId). AllBut P missing (servers_at sc c.txn)) left (plain_rests sc P S c kept mail reply awaited server verdicts h m k)
 
 acknowledged_lawful : (sc : Scenario) (P S : ServerId → Type 0) (c : Coordinator) (kept : List Record) (mail : Mail) (ack : AckReply) (ended : Outcome) (awaited : List ServerId) (server : ServerId)
     → Keeps sc P S c kept → ReplyRests P S (HoldsItem sc c.txn) (decided_in kept) mail.letter.from mail.letter.body → IsAck c mail ack ended awaited server
@@ -481,96 +583,83 @@ inquired_lawful sc P S c kept mail inquiry ended awaited server h m k =
       letters = orders_lawful sc c.txn (is_begun c.phase) (decided_in kept) ended c (server ∷ []) refl (ap is_begun k.ending) decided (item, tt);
     }
 
--- only a coordinator that is ending has decided
-awaiting_query : (c : Coordinator) (awaited : Phase) (done : DoneReply) (decided : Option Decision) → awaits_query c awaited done ≡ true → PhaseAgrees awaited decided → (decided ≡ None) × (is_begun awaited ≡ true)
-awaiting_query c phase.Idle done decided e h = absurd (cc)
-awaiting_query c (phase.Querying number staple) done decided e h = (h, refl)
-awaiting_query c (phase.Stapling number) done decided e h = absurd (cc)
-awaiting_query c (phase.Probing number) done decided e h = absurd (cc)
-awaiting_query c (phase.Asking over round) done decided e h = absurd (cc)
-awaiting_query c (phase.Checking over round staple) done decided e h = absurd (cc)
-awaiting_query c (phase.Reading over round) done decided e h = absurd (cc)
-awaiting_query c (phase.Voting awaited) done decided e h = absurd (cc)
-awaiting_query c phase.VoteProbing done decided e h = absurd (cc)
-awaiting_query c (phase.Ending ended awaited) done decided e h = absurd (cc)
+-- while a transaction runs it is not decided
+running_free : (awaited : Phase) (decided : Option Decision) → is_running awaited ≡ true → PhaseAgrees awaited decided → (decided ≡ None) × (is_begun awaited ≡ true)
+running_free phase.Idle decided e h = absurd (cc)
+running_free (phase.Querying number staple) decided e h = (h, refl)
+running_free (phase.Stapling number) decided e h = (h, refl)
+running_free (phase.Probing number) decided e h = (h, refl)
+running_free (phase.Asking over round) decided e h = (h, refl)
+running_free (phase.Checking over round staple) decided e h = (h, refl)
+running_free (phase.Reading over round) decided e h = (h, refl)
+running_free (phase.Voting awaited) decided e h = (h, refl)
+running_free phase.VoteProbing decided e h = (h, refl)
+running_free (phase.Ending ended awaited) decided e h = absurd (cc)
 
 -- every row of a coordinator on receipt of a mail
 pub coordinator_row_lawful : (sc : Scenario) (P S : ServerId → Type 0) (c : Coordinator) (kept : List Record) (mail : Mail) → Keeps sc P S c kept
     → ReplyRests P S (HoldsItem sc c.txn) (decided_in kept) mail.letter.from mail.letter.body → CoordinatorLawful sc P S c kept (coordinator_row sc c mail)
 coordinator_row_lawful sc P S c kept mail h m =
+    let s = h.agrees.servers in
     coordinator_by sc c mail (CoordinatorLawful sc P S c kept)
     (record {
       ignored = ignores_lawful_in_coordinator sc P S c kept h;
       stapled = λ tell query server k home.
           let undecided : decided_in kept ≡ None = subst (λ (p : Phase). PhaseAgrees p (decided_in kept)) k.stapling h.agrees.decided in
-          sends_query_lawful sc P S c kept query (Some (staple_of tell mail.sent)) server undecided (ap is_begun k.stapling) h.agrees.servers (home_is sc c query server home);
-      sends_query = λ query now next passed moves home.
-          let free = undecided query now passed in
-          let further : IsHome sc c (next_number query) next = home_is sc c (next_number query) next home in
-          let on = sends_query_lawful sc P S (with_gained c now) kept (next_number query) None next free.0 free.1 h.agrees.servers
-          (record { asked = further.asked; asked_is = further.asked_is; server_is = further.server_is }) in
-          record { agrees = on.agrees; replied = on.replied; same_begun = sym free.1; same_txn = refl; fresh = tt; letters = on.letters };
-      asks_staple = λ query now passed moves.
-          let free = undecided query now passed in
-          let on = staples_lawful sc P S (with_gained c now) kept (next_number query) free.0 free.1 h.agrees.servers in
-          record { agrees = on.agrees; replied = on.replied; same_begun = sym free.1; same_txn = refl; fresh = tt; letters = on.letters };
-      commit_rounds = λ query now passed moves.
-          let free = undecided query now passed in
-          let on = asks_lawful sc P S (with_gained c now) kept (commit_round sc c) free.0 free.1 h.agrees.servers
-          (each_started (HoldsItem sc c.txn) c.servers (subst (HaveItems sc c.txn) (sym h.agrees.servers) (servers_at_have_items sc c.txn)))
-          (subst (λ (servers : List ServerId). AllBut P (missing_in (map new_target servers)) (servers_at sc c.txn)) (sym h.agrees.servers) (all_but_new P (servers_at sc c.txn))) in
-          record { agrees = on.agrees; replied = on.replied; same_begun = sym free.1; same_txn = refl; fresh = tt; letters = on.letters };
-      told = λ tell round k. prepares_lawful sc P S c kept round (staple_of tell mail.sent) h k.asking;
-      counted = λ reply round staple server verdicts y.
-          let k = counted_yes reply round staple server verdicts y in
+          sends_query_lawful sc P S c kept query (Some (staple_of tell mail.sent)) server undecided (ap is_begun k.stapling) s (home_is sc c query server home);
+      sends_query = λ at now rounds next passed moves home.
+          let free = undecided_at at now rounds passed in
+          let further : IsHome sc c (next_at at) next = home_is sc c (next_at at) next home in
+          gained_lawful sc P S c now kept _ (sends_query_lawful sc P S (with_gained c now) kept (next_at at) None next free.0 free.1 s
+          (record { asked = further.asked; asked_is = further.asked_is; server_is = further.server_is }));
+      asks_staple = λ at now rounds passed moves.
+          let free = undecided_at at now rounds passed in
+          gained_lawful sc P S c now kept _ (staples_lawful sc P S (with_gained c now) kept (next_at at) free.0 free.1 s);
+      probes_proofs = λ at now rounds passed moves.
+          let free = undecided_at at now rounds passed in
+          gained_lawful sc P S c now kept _ (proofs_lawful sc P S (with_gained c now) kept at free.0 free.1 s (probed_there sc c at moves) (λ e. voted_rests sc P S c kept mail at now rounds h m passed e));
+      validates = λ at now rounds passed moves.
+          let free = undecided_at at now rounds passed in
+          gained_lawful sc P S c now kept _ (asks_lawful sc P S (with_gained c now) kept (span.Validate (number_at at)) (validation_round sc c (number_at at)) free.0 free.1 s
+          (each_started (HoldsItem sc c.txn) (servers_upto sc c (number_at at)) (servers_upto_each sc c (number_at at) (HoldsItem sc c.txn) own_items)) tt);
+      commit_rounds = λ at now rounds passed moves.
+          let free = undecided_at at now rounds passed in
+          gained_lawful sc P S c now kept _ (asks_lawful sc P S (with_gained c now) kept span.Commit (commit_round sc c) free.0 free.1 s (each_started (HoldsItem sc c.txn) c.servers own_items)
+          (subst (λ (servers : List ServerId). AllBut P (missing_in (map new_target servers)) (servers_at sc c.txn)) (sym s) (all_but_new P (servers_at sc c.txn))));
+      asks_votes = λ at now rounds passed moves.
+          let free = undecided_at at now rounds passed in
+          gained_lawful sc P S c now kept _ (asks_votes_lawful sc P S (with_gained c now) kept free.0 free.1 s);
+      told = λ tell over round k. checks_lawful sc P S c kept over round (staple_of tell mail.sent) h k.asking;
+      counted = λ over round staple server verdicts y.
+          let k = reply_counted sc P S c kept mail over round staple server verdicts h m y in
           record {
-            agrees = record { decided = k.undecided; servers = h.agrees.servers; awaited = k.items };
+            agrees = record { decided = k.undecided; servers = s; awaited = k.items };
             replied = k.prepared;
             same_begun = sym k.begun;
             same_txn = refl;
             fresh = tt;
             letters = tt;
           };
-      probed = λ reply round staple server verdicts y whole reads.
-          probes_lawful sc P S c kept (after_reply round server verdicts) h.agrees.servers (counted_yes reply round staple server verdicts y) whole;
-      decides = λ instances rounds passed.
-          let free = undecided_voted instances rounds passed in
-          commits_lawful sc P S c kept instances rounds h free.0 free.1 (all_prepared instances rounds passed);
+      probed = λ over round staple server verdicts y whole reads.
+          probes_lawful sc P S c kept over (after_reply round server verdicts) s (reply_counted sc P S c kept mail over round staple server verdicts h m y) whole;
+      voted = λ reply awaited server verdicts y. voted_lawful sc P S c kept mail reply awaited server verdicts h m y;
+      decides = λ at now rounds passed moves.
+          let free = undecided_at at now rounds passed in
+          commits_lawful sc P S c kept now rounds h free.0 free.1 (none_awaited P (servers_at sc c.txn) (voted_rests sc P S c kept mail at now rounds h m passed (decided_voted sc c at moves)));
       aborted = λ why ended.
-          let free = undecided_at_end why ended in
+          let free = running_free c.phase (decided_in kept) (ended_running sc c mail why ended) h.agrees.decided in
           aborts_lawful sc P S c kept why h free.0 free.1;
-      updated = λ round staple reading named j e. updated_lawful sc P S c kept round reading named (whole_at round staple reading j) h.agrees.servers e;
+      updated = λ over round staple reading named j e. updated_lawful sc P S c kept over round reading named (judged_counted sc P S c kept mail over round staple reading h m j) s e;
       acknowledged = λ ack ended awaited server a. acknowledged_lawful sc P S c kept mail ack ended awaited server h m a;
       inquired = λ inquiry ended awaited server k. inquired_lawful sc P S c kept mail inquiry ended awaited server h m k;
     })
   where
-    counted_yes : (reply : VoteReply) (round : Round) (staple : Staple) (server : ServerId) (verdicts : List Verdict) → IsYes c mail reply round staple server verdicts → IsCounted sc P S c kept (after_reply round server verdicts)
-    counted_yes reply round staple server verdicts y = yes_counted sc P S c kept mail reply round staple server verdicts h m y
-
-    whole_at : (round : Round) (staple : Option Staple) (reading : Option Reading) → IsJudged c mail round staple reading → IsWhole sc P S c kept round
-    whole_at round staple reading j = judged_counted sc P S c kept mail round staple reading h m j
+    own_items : HaveItems sc c.txn c.servers
+    own_items = subst (HaveItems sc c.txn) (sym h.agrees.servers) (servers_at_have_items sc c.txn)
 
     -- a point is passed before the decision
-    undecided : (query : ℕ) (now : Gained) → IsPassed sc c mail (point.Ran query) now → (decided_in kept ≡ None) × (is_begun c.phase ≡ true)
-    undecided _ _ (QueryRan done server asked value proof k) = awaiting_query c c.phase done (decided_in kept) k.awaited h.agrees.decided
-
-    undecided_voted : (instances : List Instance) (rounds : ℕ) → HasVoted sc c mail point.Voted instances rounds → (decided_in kept ≡ None) × (is_begun c.phase ≡ true)
-    undecided_voted _ _ (AllTrue round staple reading k) = let whole = whole_at round staple reading k.is_judged in (whole.undecided, whole.begun)
-
-    -- and so is an end
-    undecided_at_end : (why : Cause) → IsEnded sc c mail why → (decided_in kept ≡ None) × (is_begun c.phase ≡ true)
-    undecided_at_end _ (ByOlder done server asked other k) = awaiting_query c c.phase done (decided_in kept) k.awaited h.agrees.decided
-    undecided_at_end _ (ByRestart done server asked k) = awaiting_query c c.phase done (decided_in kept) k.awaited h.agrees.decided
-    undecided_at_end _ (ByDenial done server asked verdict k) = awaiting_query c c.phase done (decided_in kept) k.awaited h.agrees.decided
-    undecided_at_end _ (ByProof round staple reading verdict j e) = let whole = whole_at round staple reading j in (whole.undecided, whole.begun)
-    undecided_at_end _ (ByRounds reply round mets k e) = (subst (λ (p : Phase). PhaseAgrees p (decided_in kept)) k.reading h.agrees.decided, ap is_begun k.reading)
-    undecided_at_end _ (ByRefusal reply round staple server number value k) =
-        (subst (λ (p : Phase). PhaseAgrees p (decided_in kept)) k.checking h.agrees.decided, ap is_begun k.checking)
-    undecided_at_end _ (ByLoss reply round staple server k) = (subst (λ (p : Phase). PhaseAgrees p (decided_in kept)) k.checking h.agrees.decided, ap is_begun k.checking)
-
-    -- where all have voted, all are prepared
-    all_prepared : (instances : List Instance) (rounds : ℕ) → HasVoted sc c mail point.Voted instances rounds → Each P (servers_at sc c.txn)
-    all_prepared _ _ (AllTrue round staple reading k) = (whole_at round staple reading k.is_judged).prepared
+    undecided_at : (at : Point) (now : Gained) (rounds : ℕ) → IsPassed sc c mail at now rounds → (decided_in kept ≡ None) × (is_begun c.phase ≡ true)
+    undecided_at at now rounds passed = running_free c.phase (decided_in kept) (passed_running sc c mail at now rounds passed) h.agrees.decided
 
 -- ---- Submit
 
@@ -636,9 +725,9 @@ repeats_lawful sc P S c kept h =
           (record { same_txn = refl; item = asked_has_item sc c number k.asked server k.asked_is k.server_is; submitted = refl }, tt);
       asked = λ over round asking. (tt, tt);
       read = λ over round reading. (tt, tt);
-      prepared = λ round staple checking.
-          let items : EachServer (HoldsItem sc c.txn) round.targets = subst (PhaseHasItems sc c.txn) checking h.agrees.awaited in
-          prepare_letters_lawful sc c true (decided_in kept) c.turn round staple (missing_in round.targets) refl (each_missing (HoldsItem sc c.txn) round.targets items);
+      probed = λ at probing. (tt, tt);
+      prepared = λ over round staple checking. round_letters_lawful sc c true (decided_in kept) over c.turn round staple refl (subst (PhaseHasItems sc c.txn) checking h.agrees.awaited);
+      voted = λ awaited awaiting. vote_letters_lawful sc c true (decided_in kept) c.turn awaited refl (subst (PhaseHasItems sc c.txn) awaiting h.agrees.awaited);
       ordered = λ ended awaited ending.
           let decided : option_map outcome_of (decided_in kept) ≡ Some ended = subst (λ (p : Phase). PhaseAgrees p (decided_in kept)) ending h.agrees.decided in
           orders_lawful sc c.txn true (decided_in kept) ended c awaited refl refl decided (subst (PhaseHasItems sc c.txn) ending h.agrees.awaited);

@@ -5,13 +5,14 @@ use Rattle.std.proofs.Common.{Bool, List, None, Option, Some, [], ap, arith, fal
 use Rattle.std.proofs.lemmas.Bool.{eqb-true}
 use Rattle.tp_types.specs.Effect.{Effect}
 use Rattle.tp_model.specs.Ids.{same_admin}
+use Rattle.tp_model.specs.Words.answer
 use Rattle.tp_model.specs.Words.outcome
 use Rattle.tp_model.specs.Words.{Admin, AdminId, Mail, PushNotice, Record, Scenario, ServerId, Version}
 use Rattle.tp_types.proofs.EachLemmas.{set_here}
 use Rattle.tp_runs.proofs.basics.Logs.{known_with, told_by}
 use Rattle.tp_runs.proofs.basics.Stores.{ended_known, kept_known}
 use Rattle.tp_runs.proofs.basics.Versions.{set_keeps}
-use Rattle.tp_server.proofs.Rows.{AreRightWaits, denying, resuming, server_by}
+use Rattle.tp_server.proofs.Rows.{AreRightWaits, refusing, resuming, server_by, with_learnt}
 use Rattle.tp_round.specs.Judge.{version_number}
 use Rattle.tp_recover.specs.Log.{known_in}
 use Rattle.tp_machine.specs.Machine.{log_with}
@@ -20,7 +21,7 @@ use Rattle.tp_machine.specs.Named.{IsAdmin}
 use Rattle.tp_server.specs.Opened.{opening}
 use Rattle.tp_server.specs.Row.{followed_by, learns, server_row}
 use Rattle.tp_server.specs.State.{Server}
-use Rattle.tp_server.specs.Verdicts.{version_known, with_versions}
+use Rattle.tp_server.specs.Verdicts.{version_known, with_pin, with_versions}
 use Rattle.tp_store.specs.Contents.{Contents}
 use Rattle.tp_store.specs.Rule.{greater, newest_in, with_version}
 
@@ -123,23 +124,40 @@ still_followed s effect further same now =
       forces = λ admin within. omega (arith, number admin, now.forces admin within);
     }
 
+-- nor is one lowered as a query pins one
+pin_least : (s : Server) (told admin : AdminId) (pin : Option Version) → (version_known s admin).0 ≤ (version_known (with_pin s told pin) admin).0
+pin_least s told admin None = omega arith
+pin_least s told admin (Some version) = known_least s.store told admin version (version_known s admin).0 (omega arith)
+
+-- the server then learns one more
+pins_learns : (s : Server) (effect : Effect Server) (told : AdminId) (pin : Option Version) → Learns s effect → Learns s (with_learnt effect told pin)
+pins_learns s effect told pin now =
+    record {
+      raises = λ admin. omega (arith, now.raises admin, pin_least effect.state told admin pin);
+      forces = λ admin within. omega (arith, now.forces admin within, pin_least effect.state told admin pin);
+    }
+
 -- every row of a server
 pub row_learns : (sc : Scenario) (s : Server) (mail : Mail) → AreRightWaits sc s → Learns s (server_row sc s mail)
 row_learns sc s mail waits =
     server_by sc s mail (Learns s) waits
     (record {
       relocked = λ effect locks k. record { raises = k.raises; forces = k.forces };
+      relearnt = λ effect admin pin k. pins_learns s effect admin pin k;
       ignored = still_learns s _ refl (λ admin. refl);
       ran = λ q query entry value proof k r. still_learns s _ (kept_known s.store q query value) (λ admin. refl);
       denied = λ q query entry value verdict k d. still_learns s _ refl (λ admin. refl);
+      outdated = λ q query entry value newer k known. still_learns s _ refl (λ admin. refl);
       waited = λ q query entry value k. still_learns s _ refl (λ admin. refl);
       died = λ q query entry value other k dying. still_learns s _ refl (λ admin. refl);
       restarted = λ q k. still_learns s _ refl (λ admin. refl);
       answered = λ q entry given k. still_learns s _ refl (λ admin. refl);
-      voted = λ p entry staple txn k. record {
+      voted = λ p entry verdicts k. record {
         raises = λ admin. learnt_least s.store p.want admin (version_known s admin).0 (omega arith);
         forces = λ admin within. known_found (slice_get (with_versions s.store p.want).known admin.0);
       };
+      shown = λ v entry txn k. record { raises = λ admin. learnt_least s.store v.want admin (version_known s admin).0 (omega arith); forces = λ admin within. omega arith };
+      lost_verdicts = λ v k. still_learns s _ refl (λ admin. refl);
       voted_again = λ p entry cast k. still_learns s _ refl (λ admin. refl);
       refused = λ p entry number value k. still_learns s _ (ended_known s.store p.txn outcome.Abort) (λ admin. refl);
       lost = λ p k. still_learns s _ (ended_known s.store p.txn outcome.Abort) (λ admin. refl);
@@ -148,5 +166,6 @@ row_learns sc s mail waits =
       acknowledged = λ d settled k. still_learns s _ refl (λ admin. refl);
       pushed = λ push k. pushed_learns s push;
       resumed = λ effect grant q query entry value proof k r now. still_followed s effect (resuming effect.state q query entry value proof) (kept_known effect.state.store q query value) now;
-      resumed_denied = λ effect grant q query entry value verdict k d now. still_followed s effect (denying effect.state q entry verdict) refl now;
+      resumed_denied = λ effect grant q query entry value verdict k d now. still_followed s effect (refusing effect.state q entry (answer.Denied verdict)) refl now;
+      resumed_outdated = λ effect grant q query entry value newer k known now. still_followed s effect (refusing effect.state q entry (answer.Newer newer)) refl now;
     })

@@ -35,7 +35,7 @@ use Rattle.tp_server.specs.declared.server.Ballot.{Ballot}
 use Rattle.tp_server.specs.declared.server.Entry.{Entry}
 use Rattle.tp_server.specs.Row.{ack_letter, answers, answers_with, ballot_of, closes, completes, entry_after, entry_at, followed_by, is_open, learns, no_letter, prepared_record, refused_as, reply_of, server_row, settled_as, votes, with_answer, with_entry, yes_letter}
 use Rattle.tp_server.specs.State.{Server}
-use Rattle.tp_server.specs.Verdicts.{with_wants, verdicts_on}
+use Rattle.tp_server.specs.Verdicts.{with_wants}
 
 abbrev pub IsUnsettled : List Record → ℕ → Entry → Type 0
 IsUnsettled kept n entry = settled_in (record { 0 = n }) kept ≡ None
@@ -528,17 +528,21 @@ server_row_lawful V M sc s kept mail waits h aborts m named =
     server_by sc s mail (ServerLawful V M s kept) waits
     (record {
       relocked = λ effect locks k. record { agrees = record { settled = k.agrees.settled; unsettled = k.agrees.unsettled; prepared = k.agrees.prepared }; rests = k.rests; replies = k.replies };
+      relearnt = λ effect admin pin k. record { agrees = record { settled = k.agrees.settled; unsettled = k.agrees.unsettled; prepared = k.agrees.prepared }; rests = k.rests; replies = k.replies };
       ignored = ignores_lawful_in_server V M s kept h;
       ran = λ q query entry value proof k r.
           runs_lawful V M s kept q query entry (deed_of q.query query value) proof h (open_unsettled s kept q.txn h k.unsettled) (unvoted_run sc s mail q query entry value k);
       denied = λ q query entry value verdict k d. denies_lawful V M s kept q entry (answer.Denied verdict) h (open_unsettled s kept q.txn h k.unsettled) (unvoted_run sc s mail q query entry value k);
+      outdated = λ q query entry value newer k known. denies_lawful V M s kept q entry (answer.Newer newer) h (open_unsettled s kept q.txn h k.unsettled) (unvoted_run sc s mail q query entry value k);
       waited = λ q query entry value k.
           let u = unvoted_run sc s mail q query entry value k in
           entry_lawful V M s kept q.txn (record entry { waiting = Some q }) [] h (open_unsettled s kept q.txn h k.unsettled) u.unvoted u.entry_unvoted tt;
       died = λ q query entry value other k dying. denies_lawful V M s kept q entry (answer.Died other) h (open_unsettled s kept q.txn h k.unsettled) (unvoted_run sc s mail q query entry value k);
       restarted = λ q k. answers_lawful V M s kept q (reply_of q s.epoch answer.Restarted) h;
       answered = λ q entry given k. answers_lawful V M s kept q given h;
-      voted = λ p entry staple txn k. votes_lawful V M s kept p (verdicts_on sc (with_wants s p.want) txn staple p.want entry.deeds) entry h (open_unsettled s kept p.txn h k.unsettled) k.found (subst (RequestRests V M) k.said_is m) k.place;
+      voted = λ p entry verdicts k. votes_lawful V M s kept p verdicts entry h (open_unsettled s kept p.txn h k.unsettled) k.found (subst (RequestRests V M) k.said_is m) k.place;
+      shown = λ v entry txn k. record { agrees = record { settled = h.settled; unsettled = h.unsettled; prepared = h.prepared }; rests = tt; replies = (record { from_is = refl; says = tt }, tt) };
+      lost_verdicts = λ v k. record { agrees = h; rests = tt; replies = (record { from_is = refl; says = tt }, tt) };
       voted_again = λ p entry cast k. votes_again_lawful V M s kept p entry cast h k.found k.ballot_is;
       refused = λ p entry number value k.
           refuses_lawful V M s kept p entry _ h k.unsettled k.found k.unvoted (subst (RequestRests V M) k.said_is m);
@@ -549,4 +553,5 @@ server_row_lawful V M sc s kept mail waits h aborts m named =
       pushed = λ push k. learns_lawful V M s kept push h;
       resumed = λ effect grant q query entry value proof k r now. resumes_lawful V M sc s kept effect grant q query entry value proof k now;
       resumed_denied = λ effect grant q query entry value verdict k d now. resumes_unrun V M sc s kept effect grant q query entry value (answer.Denied verdict) k now;
+      resumed_outdated = λ effect grant q query entry value newer k known now. resumes_unrun V M sc s kept effect grant q query entry value (answer.Newer newer) k now;
     })

@@ -1,5 +1,5 @@
 -- The server of a coordinator's next query, where the items of all queries exist.
-use Rattle.std.proofs.Common.{Bool, List, None, Option, Some, ap, arith, false, is_some, length, option_and_then, option_map, refl, slice_get, subst, suc, sym, true, zero, ℕ, if◌then◌else◌, ◌+◌, ◌<◌, ◌∙◌, ◌≡◌, ◌≤◌}
+use Rattle.std.proofs.Common.{Bool, List, None, Option, Some, ap, arith, false, if◌then◌else◌, is_some, length, nat_le, option_and_then, option_map, refl, slice_get, subst, suc, sym, true, zero, ℕ, ⊎_elim, ◌+◌, ◌<◌, ◌∙◌, ◌≡◌, ◌≤◌}
 use Rattle.std.proofs.lemmas.Bool.{both_ways, le-leb}
 use Rattle.std.proofs.lemmas.Option.{same_Some, slice_get_past, slice_get_within}
 use Rattle.std.specs.Option.{option_map_or}
@@ -9,10 +9,10 @@ use Rattle.tp_model.specs.Levels.{reads_master}
 use Rattle.tp_model.specs.Queries.{item_of, query_at}
 use Rattle.tp_model.specs.Words.{Item, Query, Scenario, Scheme, ServerId, Transaction}
 use Rattle.tp_model.specs.Words.scheme
-use Rattle.tp_coord.specs.Row.{begins, followed, home_of, is_begun, move_after, move_at, move_of, next_number, own_query, query_count, sends_next, server_of, submit_row}
+use Rattle.tp_coord.specs.Row.{begins, followed, home_of, is_begun, move_after, move_at, move_of, next_at, next_number, number_at, own_query, query_count, sends_next, server_of, submit_row}
 use Rattle.tp_coord.specs.State.{Coordinator}
-use Rattle.tp_scheme.proofs.MoveLemmas.{asks_before_proved, rounds_at_commit, sends_unproved}
-use Rattle.tp_scheme.specs.Moves.{after_queries, after_run, before_query, next_move, proves_each}
+use Rattle.tp_scheme.proofs.MoveLemmas.{asks_before_proved, decides_after_votes, probes_incremental, rounds_at_commit, sends_unproved, validates_continuous, votes_incremental}
+use Rattle.tp_scheme.specs.Moves.{after_queries, after_run, after_votes, before_query, next_move, proves_each}
 use Rattle.tp_scheme.specs.declared.moves.Move.{Move}
 use Rattle.tp_scheme.specs.declared.moves.Move.TheVariants as move
 use Rattle.tp_scheme.specs.declared.moves.Point.{Point}
@@ -79,10 +79,6 @@ no_home sc c number homes e = found (own_query sc c number) refl e
     found None f g = refl
     found (Some asked) f g = absurd (absent asked (slice_get sc.txns c.txn.0) refl f g)
 
--- a further query has the next number
-pub further_is : (sc : Scenario) (c : Coordinator) (number : ℕ) (asked : Query) (at : ServerId) → HaveHomes sc → own_query sc c number ≡ Some asked → home_of sc c (next_number number) ≡ Some at → IsHome sc c (number + 1) at
-further_is sc c number asked at homes e home = subst (λ (n : ℕ). IsHome sc c n at) (next_is sc c number asked homes e) (home_is sc c (next_number number) at home)
-
 -- every transaction has a first one
 pub first_there : (sc : Scenario) (c : Coordinator) → HaveHomes sc → c.txn.0 < length sc.txns → is_some (home_of sc c 1) ≡ true
 first_there sc c homes exists = there (home_of sc c 1) refl
@@ -99,7 +95,7 @@ first_there sc c homes exists = there (home_of sc c 1) refl
 begins_so : (chosen : Scheme) (reads : Bool) (queries query : ℕ) → query ≤ queries → next_move chosen reads queries (point.Begun query) ≡ before_query chosen
 begins_so chosen reads queries query within = ap (λ (b : Bool). if b then before_query chosen else after_queries chosen) (le-leb query queries within)
 
-first_sent : (sc : Scenario) (c : Coordinator) (home : Option ServerId) → is_some home ≡ true → is_begun (sends_next sc c c 1 None home).state.phase ≡ true
+first_sent : (sc : Scenario) (c : Coordinator) (home : Option ServerId) → is_some home ≡ true → is_begun (sends_next sc c 1 None home).state.phase ≡ true
 first_sent sc c None e = absurd (cc)
 first_sent sc c (Some at) e = refl
 
@@ -131,6 +127,27 @@ is_beginning move.CommitRounds = true
 is_beginning move.Votes = true
 is_beginning _ = false
 
+-- a move that comes where no query begins
+abbrev pub is_elsewhere : Move → Bool
+is_elsewhere move.Probe = true
+is_elsewhere move.Validate = true
+is_elsewhere move.Decide = true
+is_elsewhere _ = false
+
+begun_elsewhere : (chosen : Scheme) (b : Bool) → is_elsewhere (if b then before_query chosen else after_queries chosen) ≡ false
+begun_elsewhere scheme.Deferred true = refl
+begun_elsewhere scheme.Deferred false = refl
+begun_elsewhere scheme.Punctual true = refl
+begun_elsewhere scheme.Punctual false = refl
+begun_elsewhere scheme.Incremental true = refl
+begun_elsewhere scheme.Incremental false = refl
+begun_elsewhere scheme.Continuous true = refl
+begun_elsewhere scheme.Continuous false = refl
+
+none_elsewhere : (sc : Scenario) (number : ℕ) (found : Option Transaction) → is_elsewhere (option_map_or (move_of sc (point.Begun number)) found move.Following) ≡ false
+none_elsewhere sc number None = refl
+none_elsewhere sc number (Some declared) = begun_elsewhere declared.scheme (nat_le number (query_count declared))
+
 run_begins_none : (chosen : Scheme) (reads : Bool) → is_beginning (after_run chosen reads) ≡ false
 run_begins_none scheme.Deferred reads = refl
 run_begins_none scheme.Punctual reads = refl
@@ -138,11 +155,30 @@ run_begins_none scheme.Incremental true = refl
 run_begins_none scheme.Incremental false = refl
 run_begins_none scheme.Continuous reads = refl
 
-ran_begins_none : (sc : Scenario) (number : ℕ) (found : Option Transaction) → is_beginning (option_map_or (move_of sc (point.Ran number)) found move.Following) ≡ false
-ran_begins_none sc number None = refl
-ran_begins_none sc number (Some declared) = run_begins_none declared.scheme (reads_master sc declared)
+votes_begin_none : (chosen : Scheme) (reads : Bool) → is_beginning (after_votes chosen reads) ≡ false
+votes_begin_none scheme.Deferred reads = refl
+votes_begin_none scheme.Punctual reads = refl
+votes_begin_none scheme.Incremental true = refl
+votes_begin_none scheme.Incremental false = refl
+votes_begin_none scheme.Continuous reads = refl
 
-other_move : (next wanted : Move) → is_beginning next ≡ false → is_beginning wanted ≡ true → next ≡ wanted → ⊥
+-- a query ran there, or all have voted
+abbrev pub is_past : Point → Bool
+is_past (point.Begun number) = false
+is_past (point.Stapled number) = false
+is_past _ = true
+
+pub past_begins_none : (sc : Scenario) (at : Point) (found : Option Transaction) → is_past at ≡ true → is_beginning (option_map_or (move_of sc at) found move.Following) ≡ false
+past_begins_none sc at None past = refl
+past_begins_none sc (point.Ran number) (Some declared) past = run_begins_none declared.scheme (reads_master sc declared)
+past_begins_none sc (point.Read number) (Some declared) past = refl
+past_begins_none sc (point.Validated number) (Some declared) past = refl
+past_begins_none sc point.Voted (Some declared) past = votes_begin_none declared.scheme (reads_master sc declared)
+past_begins_none sc point.VoteRead (Some declared) past = refl
+past_begins_none sc (point.Begun number) (Some declared) past = absurd (cc)
+past_begins_none sc (point.Stapled number) (Some declared) past = absurd (cc)
+
+pub other_move : (next wanted : Move) → is_beginning next ≡ false → is_beginning wanted ≡ true → next ≡ wanted → ⊥
 other_move next wanted none begins same =
     let both : true ≡ false = sym begins ∙ (ap is_beginning (sym same) ∙ none) in
     cc
@@ -157,14 +193,123 @@ begun_by sc c number move.CommitRounds wanted none begins e = absurd (other_move
 begun_by sc c number move.Votes wanted none begins e = absurd (other_move move.Votes wanted none begins e)
 begun_by sc c number move.Decide wanted none begins e = absurd (other_move move.Decide wanted none begins e)
 
--- such a move after a query is that where the next one begins
-pub begun_after : (sc : Scenario) (c : Coordinator) (number : ℕ) (wanted : Move) → is_beginning wanted ≡ true → move_after sc c number ≡ wanted → move_at sc c (point.Begun (next_number number)) ≡ wanted
-begun_after sc c number wanted begins e = begun_by sc c number (move_at sc c (point.Ran number)) wanted (ran_begins_none sc number (slice_get sc.txns c.txn.0)) begins e
+-- such a move at a point that is passed is that where the next query begins
+pub begun_after : (sc : Scenario) (c : Coordinator) (at : Point) (wanted : Move) → is_past at ≡ true → is_beginning wanted ≡ true → move_after sc c at ≡ wanted → move_at sc c (point.Begun (next_at at)) ≡ wanted
+begun_after sc c at wanted past begins e = begun_by sc c (number_at at) (move_at sc c at) wanted (past_begins_none sc at (slice_get sc.txns c.txn.0) past) begins e
+
+here_by : (sc : Scenario) (c : Coordinator) (number : ℕ) (next wanted : Move) → is_elsewhere wanted ≡ true → followed sc c number next ≡ wanted → next ≡ wanted
+here_by sc c number move.Following wanted other e =
+    let begun : is_elsewhere (move_at sc c (point.Begun (next_number number))) ≡ true = subst (λ (m : Move). is_elsewhere m ≡ true) (sym e) other in
+    absurd (both_ways (is_elsewhere (move_at sc c (point.Begun (next_number number)))) (none_elsewhere sc (next_number number) (slice_get sc.txns c.txn.0)) begun)
+here_by sc c number move.Ask wanted other e = e
+here_by sc c number move.SendQuery wanted other e = e
+here_by sc c number move.Probe wanted other e = e
+here_by sc c number move.Validate wanted other e = e
+here_by sc c number move.CommitRounds wanted other e = e
+here_by sc c number move.Votes wanted other e = e
+here_by sc c number move.Decide wanted other e = e
+
+-- any other move is that of the point itself
+pub moved_here : (sc : Scenario) (c : Coordinator) (at : Point) (wanted : Move) → is_elsewhere wanted ≡ true → move_after sc c at ≡ wanted → move_at sc c at ≡ wanted
+moved_here sc c at wanted other e = here_by sc c (number_at at) (move_at sc c at) wanted other e
+
+-- ---- where the other moves come
+
+-- a query ran there
+abbrev pub is_ran : Point → Bool
+is_ran (point.Ran number) = true
+is_ran _ = false
+
+-- a query ran there, or all have voted
+abbrev pub is_probed : Point → Bool
+is_probed (point.Ran number) = true
+is_probed point.Voted = true
+is_probed _ = false
+
+-- all have voted, and the master was read after them, or not
+abbrev pub is_voted : Point → Bool
+is_voted point.Voted = true
+is_voted point.VoteRead = true
+is_voted _ = false
+
+-- the point is one after a query ran
+abbrev pub is_of_query : Point → Bool
+is_of_query (point.Ran number) = true
+is_of_query (point.Read number) = true
+is_of_query (point.Validated number) = true
+is_of_query _ = false
+
+votes_follow : (sc : Scenario) (c : Coordinator) (chosen : Scheme) (reads : Bool) → is_beginning (followed sc c 0 (after_votes chosen reads)) ≡ false
+votes_follow sc c scheme.Deferred reads = refl
+votes_follow sc c scheme.Punctual reads = refl
+votes_follow sc c scheme.Incremental true = refl
+votes_follow sc c scheme.Incremental false = refl
+votes_follow sc c scheme.Continuous reads = refl
+
+voted_begins_none : (sc : Scenario) (c : Coordinator) (at : Point) → is_voted at ≡ true → is_beginning (move_after sc c at) ≡ false
+voted_begins_none sc c at voted = by_txn (slice_get sc.txns c.txn.0) refl
+  where
+    by_point : (one : Point) (declared : Transaction) → is_voted one ≡ true → is_beginning (followed sc c (number_at one) (move_of sc one declared)) ≡ false
+    by_point point.Voted declared e = votes_follow sc c declared.scheme (reads_master sc declared)
+    by_point point.VoteRead declared e = refl
+    by_point (point.Begun number) declared e = absurd (cc)
+    by_point (point.Stapled number) declared e = absurd (cc)
+    by_point (point.Ran number) declared e = absurd (cc)
+    by_point (point.Read number) declared e = absurd (cc)
+    by_point (point.Validated number) declared e = absurd (cc)
+
+    by_txn : (found : Option Transaction) → slice_get sc.txns c.txn.0 ≡ found → is_beginning (followed sc c (number_at at) (move_at sc c at)) ≡ false
+    by_txn None e =
+        ap (λ (d : Option Transaction). is_beginning (followed sc c (number_at at) (option_map_or (move_of sc at) d move.Following))) e
+        ∙ ap (λ (d : Option Transaction). is_beginning (option_map_or (move_of sc (point.Begun (next_at at))) d move.Following)) e
+    by_txn (Some declared) e = ap (λ (d : Option Transaction). is_beginning (followed sc c (number_at at) (option_map_or (move_of sc at) d move.Following))) e ∙ by_point at declared voted
+
+past_or_voted : (at : Point) → is_past at ≡ true → is_voted at ≡ false → is_of_query at ≡ true
+past_or_voted (point.Begun number) past e = absurd (cc)
+past_or_voted (point.Stapled number) past e = absurd (cc)
+past_or_voted (point.Ran number) past e = refl
+past_or_voted (point.Read number) past e = refl
+past_or_voted (point.Validated number) past e = refl
+past_or_voted point.Voted past e = absurd (cc)
+past_or_voted point.VoteRead past e = absurd (cc)
+
+-- a query begins, or all are done with, only after a query
+pub begins_of_query : (sc : Scenario) (c : Coordinator) (at : Point) (wanted : Move) → is_past at ≡ true → is_beginning wanted ≡ true → move_after sc c at ≡ wanted → is_of_query at ≡ true
+begins_of_query sc c at wanted past begins e = past_or_voted at past (by_test (is_voted at) refl)
+  where
+    by_test : (b : Bool) → is_voted at ≡ b → is_voted at ≡ false
+    by_test false f = f
+    by_test true f = absurd (let none = voted_begins_none sc c at f in let one : is_beginning (move_after sc c at) ≡ true = ap is_beginning e ∙ begins in both_ways (is_beginning (move_after sc c at)) none one)
+
+-- the move at a point is one of a transaction of the scenario
+moved_by : (sc : Scenario) (at : Point) (wanted : Move) (test : Point → Bool) → is_elsewhere wanted ≡ true → ((declared : Transaction) → move_of sc at declared ≡ wanted → test at ≡ true) → (found : Option Transaction)
+    → option_map_or (move_of sc at) found move.Following ≡ wanted → test at ≡ true
+moved_by sc at wanted test other step None e = absurd (let none : is_elsewhere move.Following ≡ true = subst (λ (m : Move). is_elsewhere m ≡ true) (sym e) other in cc)
+moved_by sc at wanted test other step (Some declared) e = step declared e
+
+-- the master is asked where a query ran, or all have voted
+pub probed_there : (sc : Scenario) (c : Coordinator) (at : Point) → move_after sc c at ≡ move.Probe → is_probed at ≡ true
+probed_there sc c at e =
+    moved_by sc at move.Probe is_probed refl
+    (λ declared moves. ⊎_elim (λ (ran : (query : ℕ) × (at ≡ point.Ran query)). ap is_probed ran.1) (λ (voted : at ≡ point.Voted). ap is_probed voted) (probes_incremental declared.scheme (reads_master sc declared) (query_count declared) at moves).2)
+    (slice_get sc.txns c.txn.0) (moved_here sc c at move.Probe refl e)
+
+-- the queries so far are evaluated together where one ran
+pub validated_ran : (sc : Scenario) (c : Coordinator) (at : Point) → move_after sc c at ≡ move.Validate → is_ran at ≡ true
+validated_ran sc c at e =
+    moved_by sc at move.Validate is_ran refl (λ declared moves. ap is_ran (validates_continuous declared.scheme (reads_master sc declared) (query_count declared) at moves).1.1) (slice_get sc.txns c.txn.0) (moved_here sc c at move.Validate refl e)
+
+-- the transaction commits where all have voted
+pub decided_voted : (sc : Scenario) (c : Coordinator) (at : Point) → move_after sc c at ≡ move.Decide → is_voted at ≡ true
+decided_voted sc c at e =
+    moved_by sc at move.Decide is_voted refl
+    (λ declared moves. ⊎_elim (λ (voted : at ≡ point.Voted). ap is_voted voted) (λ (read : at ≡ point.VoteRead). ap is_voted read) (decides_after_votes declared.scheme (reads_master sc declared) (query_count declared) at moves))
+    (slice_get sc.txns c.txn.0) (moved_here sc c at move.Decide refl e)
 
 -- ---- proofs of each query
 
 -- what a transaction of the scenario does at a point
-move_is : (sc : Scenario) (c : Coordinator) (declared : Transaction) (at : Point) (wanted : Move) → slice_get sc.txns c.txn.0 ≡ Some declared → move_at sc c at ≡ wanted → move_of sc at declared ≡ wanted
+pub move_is : (sc : Scenario) (c : Coordinator) (declared : Transaction) (at : Point) (wanted : Move) → slice_get sc.txns c.txn.0 ≡ Some declared → move_at sc c at ≡ wanted → move_of sc at declared ≡ wanted
 move_is sc c declared at wanted found e = sym (ap (λ (d : Option Transaction). option_map_or (move_of sc at) d move.Following) found) ∙ e
 
 -- a query is sent at once where the scheme does not prove each
@@ -200,18 +345,47 @@ asked_there sc c (suc before) low e = by_txn (slice_get sc.txns c.txn.0) e
         let within : law.1.0 ≤ query_count declared = law.1.2 in
         by_query declared (slice_get declared.queries before) (omega (arith, same, within)) refl
 
--- ---- the rounds at commit
+-- ---- the end
 
--- where they begin, no query has this number
-past_begun : (sc : Scenario) (declared : Transaction) (number : ℕ) → move_of sc (point.Begun number) declared ≡ move.CommitRounds → query_count declared < number
-past_begun sc declared number e =
+-- a move where all queries are done with
+abbrev pub is_ending : Move → Bool
+is_ending move.CommitRounds = true
+is_ending move.Votes = true
+is_ending _ = false
+
+ending_begins : (wanted : Move) → is_ending wanted ≡ true → is_beginning wanted ≡ true
+ending_begins move.CommitRounds e = refl
+ending_begins move.Votes e = refl
+ending_begins move.Ask e = absurd (cc)
+ending_begins move.SendQuery e = absurd (cc)
+ending_begins move.Probe e = absurd (cc)
+ending_begins move.Validate e = absurd (cc)
+ending_begins move.Decide e = absurd (cc)
+ending_begins move.Following e = absurd (cc)
+
+-- where one comes, no query has this number
+past_begun : (sc : Scenario) (declared : Transaction) (number : ℕ) (wanted : Move) → is_ending wanted ≡ true → move_of sc (point.Begun number) declared ≡ wanted → query_count declared < number
+past_begun sc declared number move.CommitRounds ends e =
     let law = rounds_at_commit declared.scheme (reads_master sc declared) (query_count declared) (point.Begun number) e in
     subst (λ (n : ℕ). query_count declared < n) (cc) law.1.2
+past_begun sc declared number move.Votes ends e =
+    let law = votes_incremental declared.scheme (reads_master sc declared) (query_count declared) (point.Begun number) e in
+    subst (λ (n : ℕ). query_count declared < n) (cc) law.1.2
+past_begun sc declared number move.Ask ends e = absurd (cc)
+past_begun sc declared number move.SendQuery ends e = absurd (cc)
+past_begun sc declared number move.Probe ends e = absurd (cc)
+past_begun sc declared number move.Validate ends e = absurd (cc)
+past_begun sc declared number move.Decide ends e = absurd (cc)
+past_begun sc declared number move.Following ends e = absurd (cc)
 
--- where they begin after a query, it was the last
-pub last_is : (sc : Scenario) (c : Coordinator) (number : ℕ) (asked : Query) → HaveHomes sc → own_query sc c number ≡ Some asked → move_after sc c number ≡ move.CommitRounds → own_query sc c (number + 1) ≡ None
-last_is sc c number asked homes e rounds = found (slice_get sc.txns c.txn.0) refl e
+-- where one comes after a query, at the point of which it is passed, that was the last
+pub last_is : (sc : Scenario) (c : Coordinator) (at : Point) (asked : Query) (wanted : Move) → HaveHomes sc → is_past at ≡ true → is_ending wanted ≡ true → own_query sc c (number_at at) ≡ Some asked → move_after sc c at ≡ wanted
+    → own_query sc c (number_at at + 1) ≡ None
+last_is sc c at asked wanted homes passed ends e moves = found (slice_get sc.txns c.txn.0) refl e
   where
+    number : ℕ
+    number = number_at at
+
     found : (declared : Option Transaction) → slice_get sc.txns c.txn.0 ≡ declared → option_and_then (λ (txn : Transaction). query_at txn number) declared ≡ Some asked
         → option_and_then (λ (txn : Transaction). query_at txn (number + 1)) declared ≡ None
     found None f g = refl
@@ -219,9 +393,8 @@ last_is sc c number asked homes e rounds = found (slice_get sc.txns c.txn.0) ref
         let few : length declared.queries ≤ 16 = homes.few c.txn.0 declared f in
         let within : number ≤ length declared.queries = query_within declared.queries number asked declared refl g in
         let further : next_number number ≡ number + 1 = next_is sc c number asked homes e in
-        let begins : move_of sc (point.Begun (next_number number)) declared ≡ move.CommitRounds =
-        sym (ap (λ (d : Option Transaction). option_map_or (move_of sc (point.Begun (next_number number))) d move.Following) f) ∙ begun_after sc c number move.CommitRounds refl rounds in
-        let past : query_count declared < next_number number = past_begun sc declared (next_number number) begins in
+        let begins : move_of sc (point.Begun (next_number number)) declared ≡ wanted = move_is sc c declared (point.Begun (next_number number)) wanted f (begun_after sc c at wanted passed (ending_begins wanted ends) moves) in
+        let past : query_count declared < next_number number = past_begun sc declared (next_number number) wanted ends begins in
         let all : length declared.queries ≤ number = omega (arith, few, within, further, past) in
         let next : number + 1 ≡ suc number = omega arith in
         ap (query_at declared) next ∙ slice_get_past declared.queries number all

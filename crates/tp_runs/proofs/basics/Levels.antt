@@ -43,7 +43,7 @@ any_as {A = A} P Q step (x ∷ xs) e = by_first (P x) refl e (any_as P Q step xs
     by_first true here some later = or_left (Q x) (list_any Q xs) (step x here)
     by_first false here some later = or_right (Q x) (list_any Q xs) (later some)
 
-item_of_admin : (at : ServerId) (admin : AdminId) (item : Option Item) → option_map_or (is_item_at at admin) item false ≡ true → option_map_or (is_item_of admin) item false ≡ true
+pub item_of_admin : (at : ServerId) (admin : AdminId) (item : Option Item) → option_map_or (is_item_at at admin) item false ≡ true → option_map_or (is_item_of admin) item false ≡ true
 item_of_admin at admin None e = absurd (cc)
 item_of_admin at admin (Some item) e = (and_parts (same_server item.server at) (same_admin item.admin admin) e).1
 

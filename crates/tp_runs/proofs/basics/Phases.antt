@@ -28,6 +28,12 @@ is_running phase.Idle = false
 is_running (phase.Ending ended awaited) = false
 is_running _ = true
 
+-- so it is not decided
+pub running_undecided : (awaited : Phase) → is_running awaited ≡ true → is_undecided awaited ≡ true
+running_undecided phase.Idle e = absurd (cc)
+running_undecided (phase.Ending ended awaited) e = absurd (cc)
+running_undecided _ e = refl
+
 -- a round at commit is over all queries
 abbrev pub is_at_commit : Span → Bool
 is_at_commit (span.Validate number) = false

@@ -1,20 +1,20 @@
 -- The servers of a round: who is awaited, and that a reply, a further round and the judgement leave the servers as they are.
-use Rattle.std.specs.List.{list_any, range_with_len}
 use Rattle.std.proofs.Common.{Bool, List, Option, Some, [], ap, cond, false, filter, flat_map, is_none, map, refl, subst, sym, true, ℕ, ◌&&◌, ◌==◌, ◌||◌, ◌∙◌, ◌∷◌, ◌≡◌}
+use Rattle.std.proofs.lemmas.Bool.{and_parts, eqb-true, or_left, or_parts, or_right}
+use Rattle.std.specs.List.{list_any, range_with_len}
+use Rattle.tp_types.proofs.EachLemmas.{by_cond, each_append, each_filter}
 use Rattle.tp_types.proofs.ListLemmas.{number_itself}
-use Rattle.std.proofs.lemmas.Bool.{and_parts, or_left, or_parts, or_right}
-use Rattle.tp_model.specs.Words.{AdminId, Reading, ServerId, Verdict, Version}
+use Rattle.tp_types.specs.Each.{Each}
 use Rattle.tp_model.specs.Ids.{same_server}
-use Rattle.tp_round.specs.Judge.{after, after_judgement, aim_in, awaits, is_missing, is_outdated, judge, met_in, mets_in, new_target, next_round, next_target, with_reply}
+use Rattle.tp_model.specs.Words.{AdminId, Reading, ServerId, Verdict, Version}
+use Rattle.tp_coord.specs.Row.{server_of_target}
+use Rattle.tp_round.specs.Judge.{after, after_judgement, aim_in, awaits, is_awaited, is_missing, is_outdated, judge, met_in, mets_in, new_target, next_round, next_target, with_reply}
 use Rattle.tp_round.specs.Replies.{by_query, is_at_query}
 use Rattle.tp_round.specs.declared.round.Judged.TheVariants as judged
 use Rattle.tp_round.specs.declared.round.Round.{Round}
 use Rattle.tp_round.specs.declared.round.Target.{Target}
 use Rattle.tp_round.specs.declared.round.Wanted.{Wanted}
-use Rattle.tp_runs.proofs.basics.Ids.{same_server_is}
-use Rattle.tp_types.proofs.EachLemmas.{by_cond, each_append, each_filter}
-use Rattle.tp_types.specs.Each.{Each}
-use Rattle.tp_coord.specs.Row.{server_of_target}
+use Rattle.tp_runs.proofs.basics.Ids.{same_server_is, server_number}
 
 -- the server is one of these
 abbrev pub is_in : List ServerId → ServerId → Bool
@@ -115,3 +115,12 @@ each_of_numbers P proofs (number ∷ numbers) h =
 pub each_by_query : (P : Verdict → Type 0) (proofs : List Verdict) → Each P proofs → Each P (by_query proofs)
 unfolding by_query
 each_by_query P proofs h = each_of_numbers P proofs (range_with_len 1 16) h
+
+-- a server that is awaited is one of those of a round
+pub awaited_holds : (K : ServerId → Type 0) (targets : List Target) (server : ServerId) → EachServer K targets → is_awaited targets server ≡ true → K server
+awaited_holds K [] server h e = absurd (cc)
+awaited_holds K (target ∷ targets) server h e = by_first (awaits server target) refl e (awaited_holds K targets server h.1)
+  where
+    by_first : (b : Bool) → awaits server target ≡ b → (b || list_any (awaits server) targets) ≡ true → (list_any (awaits server) targets ≡ true → K server) → K server
+    by_first true f g rest = subst K (ap server_number (eqb-true target.server.0 server.0 (and_parts (same_server target.server server) (is_none target.reply) f).0)) h.0
+    by_first false f g rest = rest g

@@ -1,20 +1,22 @@
 -- The servers of a transaction, and of the queries that a round is over: each has an item of these, and what holds of
 -- all of the transaction's holds of each that has an item of it.
+use Rattle.std.proofs.Common.{Bool, List, None, Option, Some, [], ap, arith, false, filter, length, refl, slice_get, subst, suc, sym, take, true, zero, ℕ, if◌then◌else◌, ◌+◌, ◌<◌, ◌==◌, ◌∙◌, ◌∷◌, ◌≡◌, ◌≤◌}
 use Rattle.std.proofs.lemmas.Bool.{eqb-true}
-use Rattle.std.proofs.Common.{◌≡◌, ℕ, zero, suc, ◌+◌, ◌<◌, ◌≤◌, ◌==◌, List, [], ◌∷◌, length, slice_get, Bool, true, false, Option, Some, None, if◌then◌else◌, refl, sym, subst, arith}
+use Rattle.std.proofs.lemmas.Bool.Decides.{nat_tests}
 use Rattle.std.specs.List.{list_any}
 use Rattle.std.specs.Option.{option_map_or}
-use Rattle.std.proofs.lemmas.Bool.Decides.{nat_tests}
-use Rattle.tp_model.specs.Words.{Query, Scenario, ServerId, Transaction, TxnId}
+use Rattle.tp_types.proofs.EachLemmas.{by_cond, each_filter}
+use Rattle.tp_types.specs.Each.{Each}
 use Rattle.tp_model.specs.Agreement.{has_item, has_item_at}
 use Rattle.tp_model.specs.Queries.{is_at_server, servers_from, servers_of}
-use Rattle.tp_types.proofs.EachLemmas.{by_cond}
-use Rattle.tp_types.specs.Each.{Each}
-use Rattle.tp_machine.specs.Named.{IsServer}
+use Rattle.tp_model.specs.Words.{Query, Scenario, ServerId, Transaction, TxnId}
 use Rattle.tp_coord.specs.Opened.{servers_at}
-use Rattle.tp_coord.specs.declared.coordinator.Span.TheVariants as span
+use Rattle.tp_coord.specs.Row.{has_query, servers_upto}
+use Rattle.tp_coord.specs.State.{Coordinator}
 use Rattle.tp_coord.specs.declared.coordinator.Span.{Span}
-use Rattle.tp_runs.proofs.basics.Phases.{only_spanned}
+use Rattle.tp_coord.specs.declared.coordinator.Span.TheVariants as span
+use Rattle.tp_machine.specs.Named.{IsServer}
+use Rattle.tp_runs.proofs.basics.Phases.{only_spanned, spanned_any}
 
 -- ---- the servers of a round
 
@@ -43,6 +45,66 @@ servers_over_have sc txn over = found (slice_get sc.txns txn.0)
     found : (declared : Option Transaction) → Each (λ (at : ServerId). option_map_or (λ (t : Transaction). has_item sc at (only_spanned over t)) declared false ≡ true) (option_map_or (λ (t : Transaction). servers_of sc (only_spanned over t)) declared [])
     found (Some declared) = servers_have sc (only_spanned over declared) 0 (length sc.servers)
     found None = tt
+
+-- ---- the servers of the queries so far
+
+-- one of these queries is at the server
+abbrev has_one : Scenario → List Query → ServerId → Bool
+has_one sc queries server = list_any (is_at_server sc server.0) queries
+
+kept_where : (sc : Scenario) (some : List Query) (new : ServerId) (others left : List ServerId) (b : Bool) → has_one sc some new ≡ b → filter (has_one sc some) others ≡ left
+    → filter (has_one sc some) (new ∷ others) ≡ (if b then new ∷ left else left)
+kept_where sc some new others left true e later = ap (λ (t : Bool). if t then new ∷ filter (has_one sc some) others else filter (has_one sc some) others) e ∙ ap (λ (servers : List ServerId). new ∷ servers) later
+kept_where sc some new others left false e later = ap (λ (t : Bool). if t then new ∷ filter (has_one sc some) others else filter (has_one sc some) others) e ∙ later
+
+-- the next server by whether one of all the queries is at it, and one of fewer
+kept_by_tests : (sc : Scenario) (some : List Query) (new : ServerId) (others left : List ServerId) (w b : Bool) → (b ≡ true → w ≡ true) → has_one sc some new ≡ b → filter (has_one sc some) others ≡ left
+    → filter (has_one sc some) (if w then new ∷ others else others) ≡ (if b then new ∷ left else left)
+kept_by_tests sc some new others left true b into e later = kept_where sc some new others left b e later
+kept_by_tests sc some new others left false true into e later = absurd (let there = into refl in cc)
+kept_by_tests sc some new others left false false into e later = later
+
+-- of the servers of some queries, those of fewer of them
+fewer_servers : (sc : Scenario) (some whole : List Query) → ((server : ℕ) → list_any (is_at_server sc server) some ≡ true → list_any (is_at_server sc server) whole ≡ true) → (low left : ℕ)
+    → filter (has_one sc some) (servers_from sc whole low left) ≡ servers_from sc some low left
+fewer_servers sc some whole into low zero = refl
+fewer_servers sc some whole into low (suc left) =
+    kept_by_tests sc some (record { 0 = low }) (servers_from sc whole (low + 1) left) (servers_from sc some (low + 1) left) (list_any (is_at_server sc low) whole) (list_any (is_at_server sc low) some) (into low) refl
+    (fewer_servers sc some whole into (low + 1) left)
+
+-- those of the transaction's servers that have one of the queries up to this one
+pub servers_upto_are : (sc : Scenario) (c : Coordinator) (number : ℕ) → c.servers ≡ servers_at sc c.txn → servers_upto sc c number ≡ servers_over sc c.txn (span.Validate number)
+servers_upto_are sc c number servers = found (slice_get sc.txns c.txn.0) refl
+  where
+    found : (declared : Option Transaction) → slice_get sc.txns c.txn.0 ≡ declared → option_map_or (λ (txn : Transaction). filter (has_query sc (take number txn.queries)) c.servers) declared []
+        ≡ option_map_or (λ (txn : Transaction). servers_of sc (only_spanned (span.Validate number) txn)) declared []
+    found None e = refl
+    found (Some declared) e =
+        ap (filter (has_query sc (take number declared.queries))) (servers ∙ ap (λ (d : Option Transaction). option_map_or (servers_of sc) d []) e)
+        ∙ fewer_servers sc (take number declared.queries) declared.queries (λ server e. spanned_any (is_at_server sc server) (span.Validate number) declared.queries e) 0 (length sc.servers)
+
+-- what holds of each of the transaction's servers holds of these
+pub servers_upto_each : (sc : Scenario) (c : Coordinator) (number : ℕ) (P : ServerId → Type 0) → Each P c.servers → Each P (servers_upto sc c number)
+servers_upto_each sc c number P h = found (slice_get sc.txns c.txn.0)
+  where
+    found : (declared : Option Transaction) → Each P (option_map_or (λ (txn : Transaction). filter (has_query sc (take number txn.queries)) c.servers) declared [])
+    found None = tt
+    found (Some declared) = each_filter P (has_query sc (take number declared.queries)) c.servers h
+
+-- what passes a test is no more than there is
+pub fewer_left : {A : Type 0} (test : A → Bool) (xs : List A) → length (filter test xs) ≤ length xs
+fewer_left test [] = omega arith
+fewer_left {A = A} test (x ∷ xs) =
+    let later = fewer_left test xs in
+    by_cond (λ (ys : List A). length ys ≤ length (x ∷ xs)) (test x) (λ y. omega (arith, later)) (λ n. omega (arith, later))
+
+-- and they are no more
+pub servers_upto_few : (sc : Scenario) (c : Coordinator) (number : ℕ) → length (servers_upto sc c number) ≤ length c.servers
+servers_upto_few sc c number = found (slice_get sc.txns c.txn.0)
+  where
+    found : (declared : Option Transaction) → length (option_map_or (λ (txn : Transaction). filter (has_query sc (take number txn.queries)) c.servers) declared []) ≤ length c.servers
+    found None = omega arith
+    found (Some declared) = fewer_left (has_query sc (take number declared.queries)) c.servers
 
 -- ---- all of them
 

@@ -223,17 +223,17 @@ raised sc c next sent turn said undecided rises h unsure =
 
 -- ---- answers
 
--- a reply of the turn of its request, whatever the places at which they are sent
-pub record Answers (sc : Scenario) (request reply : Body) (stamped : Stamp) : Type 0 where
+-- a reply of the turn of its request, whatever the places at which they are sent; P says which coordinators there are
+pub record Answers (sc : Scenario) (P : TxnId → Coordinator → Type 0) (request reply : Body) (stamped : Stamp) : Type 0 where
   pub asked : Stamp
   pub asked_is : stamp_of request ≡ Some asked
   pub reply_is : stamp_of reply ≡ Some stamped
   pub same_txn : asked.txn ≡ stamped.txn
-  pub timely : (c : Coordinator) (sent place : ℕ) → IsTimely sc c sent asked.turn request → IsTimely sc c place stamped.turn reply
+  pub timely : (c : Coordinator) (sent place : ℕ) → P stamped.txn c → IsTimely sc c sent asked.turn request → IsTimely sc c place stamped.turn reply
 
 -- what is so of a request is so of its answers
-abbrev pub IsClosed : Scenario → (Body → Type 0) → Type 0
-IsClosed sc T = (request reply : Body) (stamped : Stamp) → Answers sc request reply stamped → T request → T reply
+abbrev pub IsClosed : Scenario → (TxnId → Coordinator → Type 0) → (Body → Type 0) → Type 0
+IsClosed sc P T = (request reply : Body) (stamped : Stamp) → Answers sc P request reply stamped → T request → T reply
 
 -- what only offices say depends on the place where it was sent
 abbrev pub IsOfNoOffice : Body → Type 0
@@ -302,14 +302,6 @@ first_move turn low = omega (arith, low)
 -- so is a further one
 pub next_move : (number next turn : ℕ) → 1 ≤ number → next ≡ number + 1 → turn ≤ before_query number + 2 → turn + 1 ≤ before_query next + 2
 next_move number next turn first one_more low = omega (arith, first, one_more, low)
-
--- so is the authority before it
-pub stapling_move : (number next turn : ℕ) → 1 ≤ number → next ≡ number + 1 → turn ≤ before_query number + 2 → turn + 1 ≤ before_query next + 1
-stapling_move number next turn first one_more low = omega (arith, first, one_more, low)
-
--- so is the first round, after any query
-pub round_move : (count number turn : ℕ) → 1 ≤ number → number ≤ count → turn ≤ before_query number + 2 → turn + 1 ≤ until_round count 1 1
-round_move count number turn first last low = omega (arith, first, last, low)
 
 pub low_query : (count number asked turn : ℕ) → count ≤ 16 → number ≤ count + 1 → asked ≤ 3 → turn ≤ before_query number + asked → turn ≤ 1000
 low_query count number asked turn few last of_three low = omega (arith, few, last, of_three, low)

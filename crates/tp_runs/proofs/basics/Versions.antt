@@ -50,8 +50,3 @@ used_found P want admin known (Some wanted) e w h =
 pub used_by : (P : AdminId → Version → Type 0) (s : Server) (want : List (AdminId × Version)) (admin : AdminId) → Each (λ (wanted : AdminId × Version). P wanted.0 wanted.1) want → P admin (version_known s admin)
     → P admin (version_used s want admin)
 used_by P s want admin w h = used_found P want admin (version_known s admin) (find (is_for admin) want) refl w h
-
--- a deed is evaluated at the version that is wanted of the administrator of its item
-pub wanted_used : (sc : Scenario) (s : Server) (txn : Transaction) (staple : Staple) (want : List (AdminId × Version)) (deed : Deed) (wanted : ℕ) → wanted_of want (verdict_on sc s txn staple want deed).admin ≡ Some wanted
-    → (verdict_on sc s txn staple want deed).version.0 ≡ wanted
-wanted_used sc s txn staple want deed wanted e = ap (λ (found : Option ℕ). (version_or found (version_known s (admin_of sc deed.item))).0) e

@@ -1,35 +1,35 @@
 -- Bounds, the server's rows: what a query reads or writes is within its bound, and so is all that is kept, forced and said of it.
-use Rattle.std.specs.List.{find, list_any}
-use Rattle.std.specs.Option.{option_map_or}
 use Rattle.std.proofs.Common.{IfSome, List, MatchOption, None, Option, Some, [], ap, arith, false, refl, subst, suc, sym, zero, ℕ, ℤ, ⊎_elim, ◌==◌, ◌^◌, ◌∙◌, ◌∷◌, ◌≡◌, ◌≤◌}
 use Rattle.std.proofs.lemmas.Int.{ints}
 use Rattle.std.proofs.lemmas.Option.{same_Some}
+use Rattle.std.specs.List.{find, list_any}
+use Rattle.std.specs.Option.{option_map_or}
+use Rattle.tp_types.proofs.EachLemmas.{each_append, each_found, each_get, each_more, placed_emptied, placed_set}
+use Rattle.tp_types.specs.Each.{Each, EachPlaced}
 use Rattle.tp_types.specs.Effect.{Effect, sends}
-use Rattle.tp_lock.specs.declared.entry.Grant.{Grant}
+use Rattle.tp_model.specs.Deeds.{deed_of}
 use Rattle.tp_model.specs.SerialRun.{number_at}
+use Rattle.tp_model.specs.Words.{Answer, DecideRequest, DoneReply, ItemId, Letter, Mail, Query, QueryRequest, Scenario, Settled, TxnId, Verdict}
 use Rattle.tp_model.specs.Words.answer
 use Rattle.tp_model.specs.Words.query
-use Rattle.tp_model.specs.Words.{Answer, DecideRequest, DoneReply, ItemId, Letter, Mail, Query, QueryRequest, Scenario, Settled, TxnId, Verdict}
-use Rattle.tp_types.proofs.EachLemmas.{each_append, each_found, each_get, each_more, placed_emptied, placed_set}
-use Rattle.tp_runs.proofs.basics.Stores.{EachWrite, ended_each, kept_each, learnt_each}
-use Rattle.tp_runs.proofs.bounds.Numbers.{bounded_item, bounded_later}
-use Rattle.tp_runs.proofs.basics.Found.{of_some}
+use Rattle.tp_lock.specs.declared.entry.Grant.{Grant}
 use Rattle.tp_recover.specs.Log.{values_by}
-use Rattle.tp_runs.proofs.serial_data.Rows.{IsRunAt, RequestClear, ServerKeeps, ServerReads, deeds_in, denies_keep, keeps_cases, resumed_at, resumes_keep, run_at, values_with}
-use Rattle.tp_runs.proofs.deeds.Tentative.{last_upto}
-use Rattle.tp_server.proofs.Rows.{AreRightWaits, IsAsking, IsFirstHere, IsFurther, IsOrder, IsResumed, denying, resuming, server_by, unwaiting}
-use Rattle.tp_runs.specs.Bounded.{IsAtMost, IsBounded, IsBoundedAnswer, IsBoundedBody, IsBoundedDeed, IsBoundedDone, IsBoundedEntry, IsBoundedNo, IsBoundedQuery, IsBoundedRecord, IsBoundedSettled, IsBoundedWrite}
-use Rattle.tp_model.specs.Deeds.{deed_of}
-use Rattle.tp_types.specs.Each.{Each, EachPlaced}
-use Rattle.tp_server.specs.declared.server.Entry.{Entry}
+use Rattle.tp_server.proofs.Rows.{AreRightWaits, IsAsking, IsFirstHere, IsFurther, IsOrder, IsResumed, refusing, resuming, server_by, unwaiting}
 use Rattle.tp_server.specs.Row.{answers_with, closes, completes, entry_after, entry_at, followed_by, ran_as, reply_of, server_row, value_of_run, with_answer, with_entry}
 use Rattle.tp_server.specs.State.{Server}
+use Rattle.tp_server.specs.declared.server.Entry.{Entry}
 use Rattle.tp_store.proofs.OutsideLemmas.{first_is_least}
 use Rattle.tp_store.specs.Contents.{Contents}
 use Rattle.tp_store.specs.Laws.{IsLeastOutside}
 use Rattle.tp_store.specs.Rule.{first_outside_in, read_in, value_in, value_of, writes_of}
 use Rattle.tp_store.specs.Writes.{is_on, is_outside}
 use Rattle.tp_store.specs.declared.writes.TentativeWrite.{TentativeWrite}
+use Rattle.tp_runs.proofs.basics.Found.{of_some}
+use Rattle.tp_runs.proofs.basics.Stores.{EachWrite, ended_each, kept_each, learnt_each}
+use Rattle.tp_runs.proofs.bounds.Numbers.{bounded_item, bounded_later}
+use Rattle.tp_runs.proofs.deeds.Tentative.{last_upto}
+use Rattle.tp_runs.proofs.serial_data.Rows.{IsRunAt, RequestClear, ServerKeeps, ServerReads, deeds_in, keeps_cases, refuses_keep, resumed_at, resumes_keep, run_at, values_with}
+use Rattle.tp_runs.specs.Bounded.{IsAtMost, IsBounded, IsBoundedAnswer, IsBoundedBody, IsBoundedDeed, IsBoundedDone, IsBoundedEntry, IsBoundedNo, IsBoundedQuery, IsBoundedRecord, IsBoundedSettled, IsBoundedWrite}
 
 -- ---- what is said
 
@@ -183,13 +183,13 @@ resumes_bounded sc M s effect grant q query entry value proof k h =
       row = record { kept = ran.kept; forces = h.row.forces; letters = each_append IsBoundedLetter effect.reaction.letters _ h.row.letters ran.letters };
     }
 
--- or its proof is false
-denies_bounded : (sc : Scenario) (M : TxnId → Type 0) (s : Server) (effect : Effect Server) (grant : Grant) (q : QueryRequest) (query : Query) (entry : Entry) (value : ℤ) (verdict : Verdict) → IsResumed sc s.server effect.state grant q query entry value
-    → BoundsBeside sc M s effect → BoundsBeside sc M s (followed_by effect (denying effect.state q entry verdict))
-denies_bounded sc M s effect grant q query entry value verdict k h =
-    let keeps = denies_keep sc M s effect grant q query entry value verdict k h.keeps in
+-- or it is given an answer without a value, which ends its transaction
+refuses_bounded : (sc : Scenario) (M : TxnId → Type 0) (s : Server) (effect : Effect Server) (grant : Grant) (q : QueryRequest) (query : Query) (entry : Entry) (value : ℤ) (said : Answer) → IsResumed sc s.server effect.state grant q query entry value
+    → IsBoundedAnswer q.query said → BoundsBeside sc M s effect → BoundsBeside sc M s (followed_by effect (refusing effect.state q entry said))
+refuses_bounded sc M s effect grant q query entry value said k none h =
+    let keeps = refuses_keep sc M s effect grant q query entry value said k h.keeps in
     let old : IsBoundedEntry entry = h.row.kept.entries q.txn.0 entry k.found in
-    let row = answers_bounded effect.state q (unwaiting entry) (answer.Denied verdict) (record { values = h.values; kept = h.row.kept }) (record { answers = old.answers; waiting = tt; deeds = old.deeds }) tt in
+    let row = answers_bounded effect.state q (unwaiting entry) said (record { values = h.values; kept = h.row.kept }) (record { answers = old.answers; waiting = tt; deeds = old.deeds }) none in
     record { keeps = keeps; values = h.values; row = record { kept = row.kept; forces = h.row.forces; letters = each_append IsBoundedLetter effect.reaction.letters _ h.row.letters row.letters } }
 
 -- every row of a server on receipt of a mail
@@ -205,12 +205,20 @@ server_row_bounds sc M s mail waits h said reads clear orders =
             values = k.values;
             row = record { kept = record { writes = k.row.kept.writes; settled = k.row.kept.settled; entries = k.row.kept.entries }; forces = k.row.forces; letters = k.row.letters };
           };
+      relearnt = λ effect admin pin k.
+          record {
+            keeps = keeps.relearnt effect admin pin k.keeps;
+            values = k.values;
+            row = record { kept = record { writes = k.row.kept.writes; settled = k.row.kept.settled; entries = k.row.kept.entries }; forces = k.row.forces; letters = k.row.letters };
+          };
       ignored = beside sc M s _ keeps.ignored h.values (stays_bounded s [] h tt);
       ran = λ q query entry value proof k r.
           beside sc M s _ (keeps.ran q query entry value proof k r) h.values
           (runs_bounded sc s q query entry value proof h (subst IsBoundedBody k.said_is said) (run_at sc s mail q query entry value reads (subst (RequestClear sc M s) k.said_is clear) k) k.value_is (entry_bounded sc s mail q query entry value h k));
       denied = λ q query entry value verdict k d.
           beside sc M s _ (keeps.denied q query entry value verdict k d) h.values (answers_bounded s q entry (answer.Denied verdict) h (entry_bounded sc s mail q query entry value h k) tt);
+      outdated = λ q query entry value newer k e.
+          beside sc M s _ (keeps.outdated q query entry value newer k e) h.values (answers_bounded s q entry (answer.Newer newer) h (entry_bounded sc s mail q query entry value h k) tt);
       waited = λ q query entry value k.
           let old = entry_bounded sc s mail q query entry value h k in
           beside sc M s _ (keeps.waited q query entry value k) h.values
@@ -221,9 +229,9 @@ server_row_bounds sc M s mail waits h said reads clear orders =
       answered = λ q entry given k.
           beside sc M s _ (keeps.answered q entry given k) h.values
           (stays_bounded s _ h (each_found IsBoundedDone (λ (other : DoneReply). other.query == q.query) entry.answers given (h.kept.entries q.txn.0 entry k.found).answers k.given_is, tt));
-      voted = λ p entry staple txn k.
+      voted = λ p entry verdicts k.
           let old : IsBoundedEntry entry = h.kept.entries p.txn.0 entry k.found in
-          beside sc M s _ (keeps.voted p entry staple txn k) h.values
+          beside sc M s _ (keeps.voted p entry verdicts k) h.values
           (record {
             kept = record {
               writes = learnt_each (λ (txn : TxnId) (write : TentativeWrite). IsBoundedWrite write) s.store p.want h.kept.writes;
@@ -233,6 +241,14 @@ server_row_bounds sc M s mail waits h said reads clear orders =
             forces = old.deeds;
             letters = (tt, tt);
           });
+      shown = λ v entry txn k.
+          beside sc M s _ (keeps.shown v entry txn k) h.values
+          (record {
+            kept = record { writes = learnt_each (λ (txn : TxnId) (write : TentativeWrite). IsBoundedWrite write) s.store v.want h.kept.writes; settled = h.kept.settled; entries = h.kept.entries };
+            forces = tt;
+            letters = (tt, tt);
+          });
+      lost_verdicts = λ v k. beside sc M s _ (keeps.lost_verdicts v k) h.values (stays_bounded s _ h (tt, tt));
       voted_again = λ p entry cast k. beside sc M s _ (keeps.voted_again p entry cast k) h.values (stays_bounded s _ h (tt, tt));
       refused = λ p entry number value k.
           let why : IsBounded number value = refused_bounded s p.txn number value h k.outside in
@@ -245,5 +261,6 @@ server_row_bounds sc M s mail waits h said reads clear orders =
       pushed = λ push k.
           beside sc M s _ (keeps.pushed push k) h.values (record { kept = record { writes = h.kept.writes; settled = h.kept.settled; entries = h.kept.entries }; forces = tt; letters = tt });
       resumed = λ effect grant q query entry value proof k r now. resumes_bounded sc M s effect grant q query entry value proof k now;
-      resumed_denied = λ effect grant q query entry value verdict k d now. denies_bounded sc M s effect grant q query entry value verdict k now;
+      resumed_denied = λ effect grant q query entry value verdict k d now. refuses_bounded sc M s effect grant q query entry value (answer.Denied verdict) k tt now;
+      resumed_outdated = λ effect grant q query entry value newer k e now. refuses_bounded sc M s effect grant q query entry value (answer.Newer newer) k tt now;
     })).row

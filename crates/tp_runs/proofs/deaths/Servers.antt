@@ -23,12 +23,12 @@ use Rattle.tp_runs.proofs.basics.Locks.{EachLock, all_added, locks_as, released_
 use Rattle.tp_runs.proofs.deaths.Fit.{Death, DoneDies, LetterDies, LockFits, done_sent}
 use Rattle.tp_server.proofs.Tables.{placed_within}
 use Rattle.tp_runs.proofs.basics.Folds.{set_elsewhere}
-use Rattle.tp_server.proofs.Rows.{AreRightWaits, IsAsking, IsFirstHere, IsFurther, IsResumed, denying, resuming, server_by_locks, unwaiting, with_locks}
+use Rattle.tp_server.proofs.Rows.{AreRightWaits, IsAsking, IsFirstHere, IsFurther, IsResumed, refusing, resuming, server_by_locks, unwaiting, with_locks}
 use Rattle.tp_types.specs.Each.{Each, EachPlaced}
 use Rattle.tp_server.specs.declared.server.Entry.{Entry}
-use Rattle.tp_server.specs.Row.{ack_letter, after_asking, answers_with, ballot_of, closes, entry_after, entry_at, followed_by, lock_answer, no_letter, prepared_record, refused_as, reply_of, server_row, settled_as, with_answer}
+use Rattle.tp_server.specs.Row.{ack_letter, after_asking, answers_with, ballot_of, closes, entry_after, entry_at, followed_by, lock_answer, no_letter, pinned, prepared_record, refused_as, reply_letter, reply_of, server_row, settled_as, with_answer}
 use Rattle.tp_server.specs.State.{Server}
-use Rattle.tp_server.specs.Verdicts.{with_wants, verdicts_on}
+use Rattle.tp_server.specs.Verdicts.{with_wants}
 use Rattle.tp_store.specs.Contents.{Contents}
 
 -- ---- what is kept
@@ -124,10 +124,10 @@ closes_dies sc facts place s order letter h said =
       letters = (said, tt);
     }
 
--- a query that asks has this answer, which ends its transaction
-answers_dies : (sc : Scenario) (facts : List Fact) (place : ℕ) (s : Server) (mail : Mail) (q : QueryRequest) (query : Query) (entry : Entry) (value : ℤ) (by : Asked) (given : Answer) → ArePast place facts → lock_answer s q query entry ≡ by
-    → IsAsking sc s mail q query entry value → q.txn.0 < length s.entries → ServerDies sc facts s.server s → DoneDies sc facts s.server (reply_of q entry.epoch given) → RowDies sc facts place s (answers_with (after_asking s q query entry) q entry given)
-answers_dies sc facts place s mail q query entry value by given past e k within h said =
+-- a query that asks has this answer, which ends its transaction; the server may have learnt a version
+answers_dies : (sc : Scenario) (facts : List Fact) (place : ℕ) (s : Server) (mail : Mail) (q : QueryRequest) (query : Query) (entry : Entry) (value : ℤ) (by : Asked) (store : Contents) (given : Answer) → ArePast place facts → lock_answer s q query entry ≡ by
+    → IsAsking sc s mail q query entry value → q.txn.0 < length s.entries → ServerDies sc facts s.server s → DoneDies sc facts s.server (reply_of q entry.epoch given) → RowDies sc facts place s (answers_with (record (after_asking s q query entry) { store = store }) q entry given)
+answers_dies sc facts place s mail q query entry value by store given past e k within h said =
     let new = with_answer q entry given in
     record {
       state = record {
@@ -160,7 +160,7 @@ resumed_kept sc facts place s effect grant q query entry value k h = h.state.kep
 
 -- what waited runs, after what was done before
 resumes_dies : (sc : Scenario) (facts : List Fact) (place : ℕ) (s : Server) (effect : Effect Server) (grant : Grant) (q : QueryRequest) (query : Query) (entry : Entry) (value : ℤ) (proof : Option Verdict) → IsResumed sc s.server effect.state grant q query entry value
-    → length s.entries ≡ length sc.txns → RowDies sc facts place s effect → RowDies sc facts place s (with_locks (followed_by effect (resuming effect.state q query entry value proof)) (without_grant effect.state.locks))
+    → length s.entries ≡ length sc.txns → RowDies sc facts place s effect → RowDies sc facts place s (with_locks (followed_by effect (resuming (pinned sc effect.state q (deed_of q.query query value)) q query entry value proof)) (without_grant effect.state.locks))
 resumes_dies sc facts place s effect grant q query entry value proof k places h =
     let new = entry_after q (unwaiting entry) (deed_of q.query query value) proof in
     record {
@@ -169,15 +169,16 @@ resumes_dies sc facts place s effect grant q query entry value proof k places h 
       letters = each_more (LetterDies sc facts place) effect.reaction.letters _ h.letters tt;
     }
 
--- the proof of what waited is false
-resumed_denied_dies : (sc : Scenario) (facts : List Fact) (place : ℕ) (s : Server) (effect : Effect Server) (grant : Grant) (q : QueryRequest) (query : Query) (entry : Entry) (value : ℤ) (verdict : Verdict) → IsResumed sc s.server effect.state grant q query entry value
-    → length s.entries ≡ length sc.txns → RowDies sc facts place s effect → RowDies sc facts place s (with_locks (followed_by effect (denying effect.state q entry verdict)) (without_grant effect.state.locks))
-resumed_denied_dies sc facts place s effect grant q query entry value verdict k places h =
-    let new = with_answer q (unwaiting entry) (answer.Denied verdict) in
+-- what waited has an answer that ends its transaction; the server may have learnt a version
+resumed_refused_dies : (sc : Scenario) (facts : List Fact) (place : ℕ) (s : Server) (effect : Effect Server) (grant : Grant) (q : QueryRequest) (query : Query) (entry : Entry) (value : ℤ) (store : Contents) (given : Answer) → IsResumed sc s.server effect.state grant q query entry value
+    → length s.entries ≡ length sc.txns → RowDies sc facts place s effect → DoneDies sc facts s.server (reply_of q entry.epoch given) → LetterDies sc facts place (reply_letter effect.state q (unwaiting entry) given)
+    → RowDies sc facts place s (with_locks (followed_by effect (refusing (record effect.state { store = store }) q entry given)) (without_grant effect.state.locks))
+resumed_refused_dies sc facts place s effect grant q query entry value store given k places h said sent =
+    let new = with_answer q (unwaiting entry) given in
     record {
-      state = resumed_state sc facts place s effect grant q query entry new value _ k places h refl (each_more (DoneDies sc facts s.server) entry.answers _ (resumed_kept sc facts place s effect grant q query entry value k h) tt);
+      state = resumed_state sc facts place s effect grant q query entry new value store k places h refl (each_more (DoneDies sc facts s.server) entry.answers _ (resumed_kept sc facts place s effect grant q query entry value k h) said);
       places = length-set effect.state.entries q.txn.0 (Some new) ∙ h.places;
-      letters = each_more (LetterDies sc facts place) effect.reaction.letters _ h.letters tt;
+      letters = each_more (LetterDies sc facts place) effect.reaction.letters _ h.letters sent;
     }
 
 -- what is known of a query that asks: it is of a transaction of the scenario, and where an older one stands in the way its transaction is to die
@@ -204,7 +205,8 @@ server_row_dies sc facts place s mail past rightly known h =
             places = length-set s.entries q.txn.0 (Some new);
             letters = (tt, tt);
           };
-      denied = λ q query entry value verdict k granted d. answers_dies sc facts place s mail q query entry value asked.Granted (answer.Denied verdict) past granted k (within_for q k.said_is) h tt;
+      denied = λ q query entry value verdict k granted d. answers_dies sc facts place s mail q query entry value asked.Granted (pinned sc (after_asking s q query entry) q (deed_of q.query query value)).store (answer.Denied verdict) past granted k (within_for q k.said_is) h tt;
+      outdated = λ q query entry value newer k granted found. answers_dies sc facts place s mail q query entry value asked.Granted s.store (answer.Newer newer) past granted k (within_for q k.said_is) h tt;
       waited = λ q query entry value k waiting.
           let new : Entry = record entry { waiting = Some q } in
           record {
@@ -216,13 +218,13 @@ server_row_dies sc facts place s mail past rightly known h =
             letters = tt;
           };
       died = λ q query entry value other k dying.
-          answers_dies sc facts place s mail q query entry value (asked.Dies other) (answer.Died other) past dying k (within_for q k.said_is) h (known.dying q query entry value other k dying);
+          answers_dies sc facts place s mail q query entry value (asked.Dies other) s.store (answer.Died other) past dying k (within_for q k.said_is) h (known.dying q query entry value other k dying);
       restarted = λ q k. still_dies sc facts place s _ h (tt, tt);
       answered = λ q entry given k.
           still_dies sc facts place s _ h
           (done_sent sc facts place s.server given past (each_found (DoneDies sc facts s.server) (λ (d : DoneReply). d.query == q.query) entry.answers given (h.kept q.txn.0 entry k.found) k.given_is), tt);
-      voted = λ p entry staple txn k.
-          let voted : Entry = record entry { ballot = Some (ballot_of (prepared_record (with_wants s p.want) p entry (verdicts_on sc (with_wants s p.want) txn staple p.want entry.deeds))) } in
+      voted = λ p entry verdicts k.
+          let voted : Entry = record entry { ballot = Some (ballot_of (prepared_record (with_wants s p.want) p entry verdicts)) } in
           let within = placed_within s.entries p.txn.0 entry k.found in
           record {
             state = record {
@@ -233,6 +235,8 @@ server_row_dies sc facts place s mail past rightly known h =
             places = length-set s.entries p.txn.0 (Some voted);
             letters = (tt, tt);
           };
+      shown = λ v entry txn k. record { state = record { locks = h.locks; kept = h.kept }; places = refl; letters = (tt, tt) };
+      lost_verdicts = λ v k. still_dies sc facts place s _ h (tt, tt);
       voted_again = λ p entry cast k. still_dies sc facts place s _ h (tt, tt);
       refused = λ p entry number value k. closes_dies sc facts place s (refused_as p _) (no_letter s p _) h tt;
       lost = λ p k. closes_dies sc facts place s (refused_as p _) (no_letter s p _) h tt;
@@ -242,7 +246,10 @@ server_row_dies sc facts place s mail past rightly known h =
       pushed = λ push k. record { state = record { locks = h.locks; kept = h.kept }; places = refl; letters = tt };
       passed = λ effect grant first nobody k. record { state = record { locks = k.state.locks; kept = k.state.kept }; places = k.places; letters = k.letters };
       resumed = λ effect grant q query entry value proof k r now. resumes_dies sc facts place s effect grant q query entry value proof k known.places now;
-      resumed_denied = λ effect grant q query entry value verdict k d now. resumed_denied_dies sc facts place s effect grant q query entry value verdict k known.places now;
+      resumed_denied = λ effect grant q query entry value verdict k d now.
+          resumed_refused_dies sc facts place s effect grant q query entry value (pinned sc effect.state q (deed_of q.query query value)).store (answer.Denied verdict) k known.places now tt tt;
+      resumed_outdated = λ effect grant q query entry value newer k found now.
+          resumed_refused_dies sc facts place s effect grant q query entry value effect.state.store (answer.Newer newer) k known.places now tt tt;
     })
   where
     within_for : (q : QueryRequest) → mail.letter.body ≡ body.Query q → q.txn.0 < length s.entries

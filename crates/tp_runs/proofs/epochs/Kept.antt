@@ -1,24 +1,26 @@
 -- Epochs, what a coordinator keeps: of each server at which a query of its transaction ran, one that has not decided keeps an epoch, and
 -- all that was asked of a server is what it keeps. And its row on the answer to a query, which is where it learns an epoch.
 use Rattle.std.specs.List.{list_any}
-use Rattle.std.proofs.Common.{Bool, IfSome, List, None, Option, Some, [], ap, arith, false, if◌then◌else◌, is_none, is_some, length, not, option_map, refl, slice_get, slice_set, subst, sym, take, true, ℕ, ℤ, ◌+◌, ◌-◌, ◌<◌, ◌==◌, ◌||◌, ◌∙◌, ◌∷◌, ◌≡◌, ◌≤◌}
+use Rattle.std.proofs.Common.{Bool, IfSome, List, None, Option, Some, [], ap, arith, false, if◌then◌else◌, is_none, is_some, length, not, option_and_then, option_map, refl, slice_get, slice_set, subst, suc, sym, take, true, zero, ℕ, ℤ, ◌+◌, ◌-◌, ◌<◌, ◌==◌, ◌||◌, ◌∙◌, ◌∷◌, ◌≡◌, ◌≤◌}
 use Rattle.std.proofs.lemmas.Bool.{eqb-true, not-true}
 use Rattle.std.proofs.lemmas.List.{length-set}
-use Rattle.std.proofs.lemmas.Option.{same_Some}
+use Rattle.std.proofs.lemmas.Option.{same_Some, slice_get_past, slice_get_within}
 use Rattle.tp_types.specs.Effect.{Effect, ignores}
 use Rattle.std.specs.Option.{option_flatten}
+use Rattle.tp_model.specs.Levels.{reads_master}
 use Rattle.tp_model.specs.Agreement.{has_item_at}
-use Rattle.tp_model.specs.Queries.{is_at_server}
+use Rattle.tp_model.specs.Queries.{is_at_server, query_at}
 use Rattle.tp_model.specs.Words.actor
 use Rattle.tp_model.specs.Words.body
-use Rattle.tp_model.specs.Words.{Actor, DoneReply, Letter, Mail, Query, Scenario, ServerId, Staple, TxnId, Verdict}
+use Rattle.tp_model.specs.Words.{Actor, DoneReply, Letter, Mail, Query, Scenario, ServerId, Staple, Transaction, TxnId, Verdict}
 use Rattle.tp_runs.proofs.agreement.Coordinator.{servers_at_have_items}
-use Rattle.tp_runs.proofs.basics.Homes.{HaveHomes, last_is, next_is}
+use Rattle.tp_runs.proofs.basics.Homes.{HaveHomes, begun_after, is_beginning, is_ending, is_past, move_is}
 use Rattle.tp_runs.proofs.basics.Ids.{server_number}
 use Rattle.tp_types.proofs.EachLemmas.{each_as, missing, placed_set}
 use Rattle.tp_runs.proofs.basics.Logs.{get_set}
-use Rattle.tp_runs.proofs.basics.Phases.{all_ran, awaits_is, has_run_at, is_first_at, is_undecided, late_has_run, next_ran, queries_of, sent_to_server}
-use Rattle.tp_runs.proofs.basics.Rounds.{EachServer, each_started}
+use Rattle.tp_runs.proofs.basics.Phases.{awaits_is, has_run_at, is_first_at, is_undecided, next_ran, queries_of, sent_to_server}
+use Rattle.tp_runs.proofs.basics.Rounds.{EachServer}
+use Rattle.tp_runs.proofs.deeds.Runs.{query_after}
 use Rattle.tp_runs.proofs.epochs.Asked.{Asking, IsKeptNaming, NamesKept, NamesOwn, asked_then, kept_are_asked, kept_are_own, naming, none_then, then_kept}
 use Rattle.tp_runs.proofs.epochs.Server.{BodyTold, DoneMade, IsPlainLetter, LetterFirst, LetterTold, LettersEpochs, has_restarted, plain_letters, plain_names_none, plain_names_own}
 use Rattle.tp_coord.proofs.Rows.{IsRanAnswer}
@@ -29,8 +31,11 @@ use Rattle.tp_coord.specs.Row as coord
 use Rattle.tp_coord.specs.State.{Coordinator}
 use Rattle.tp_coord.specs.declared.coordinator.Phase.TheVariants as phase
 use Rattle.tp_coord.specs.declared.coordinator.Phase.{Phase}
-use Rattle.tp_coord.specs.declared.coordinator.Span.TheVariants as span
+use Rattle.tp_scheme.proofs.MoveLemmas.{rounds_at_commit, votes_incremental}
 use Rattle.tp_scheme.specs.declared.moves.Move.TheVariants as move
+use Rattle.tp_scheme.specs.declared.moves.Move.{Move}
+use Rattle.tp_scheme.specs.declared.moves.Point.TheVariants as point
+use Rattle.tp_scheme.specs.declared.moves.Point.{Point}
 
 -- ---- what is kept
 
@@ -84,6 +89,57 @@ plain_keeps sc E A txn now letters h plain =
 pub ignores_keeps : (sc : Scenario) (E : ℕ → ℕ) (A : Asking) (c : Coordinator) → CoordinatorKeeps sc E (A c.txn) c → RowKeeps sc E A c (ignores c)
 ignores_keeps sc E A c h = plain_keeps sc E A c.txn (Some c) [] h tt
 
+-- ---- queries that are left
+
+-- where the rounds at commit begin, or the votes, no query has this number
+ends_past : (sc : Scenario) (declared : Transaction) (number : ℕ) (wanted : Move) → is_ending wanted ≡ true → coord.move_of sc (point.Begun number) declared ≡ wanted → coord.query_count declared < number
+ends_past sc declared number move.CommitRounds ends e =
+    let law = rounds_at_commit declared.scheme (reads_master sc declared) (coord.query_count declared) (point.Begun number) e in
+    subst (λ (n : ℕ). coord.query_count declared < n) (cc) law.1.2
+ends_past sc declared number move.Votes ends e =
+    let law = votes_incremental declared.scheme (reads_master sc declared) (coord.query_count declared) (point.Begun number) e in
+    subst (λ (n : ℕ). coord.query_count declared < n) (cc) law.1.2
+ends_past sc declared number _ ends e = absurd (cc)
+
+-- where one of them comes at a point that is passed, no query is past that of the point
+pub none_left : (sc : Scenario) (c : Coordinator) (at : Point) (wanted : Move) (declared : Transaction) → HaveHomes sc → is_past at ≡ true → is_beginning wanted ≡ true → is_ending wanted ≡ true → slice_get sc.txns c.txn.0 ≡ Some declared
+    → coord.move_after sc c at ≡ wanted → length declared.queries ≤ coord.number_at at
+none_left sc c at wanted declared homes passed begins ends found moves =
+    let few : length declared.queries ≤ 16 = homes.few c.txn.0 declared found in
+    let begun : coord.move_of sc (point.Begun (coord.next_at at)) declared ≡ wanted = move_is sc c declared (point.Begun (coord.next_at at)) wanted found (begun_after sc c at wanted passed begins moves) in
+    let past : coord.query_count declared < coord.next_at at = ends_past sc declared (coord.next_at at) wanted ends begun in
+    let next : coord.next_at at ≤ coord.number_at at + 1 = omega arith in
+    omega (arith, few, past, next)
+
+-- so there is none of the number after it
+pub none_after : (sc : Scenario) (c : Coordinator) (at : Point) (wanted : Move) → HaveHomes sc → is_past at ≡ true → is_beginning wanted ≡ true → is_ending wanted ≡ true → coord.move_after sc c at ≡ wanted
+    → query_in sc c.txn (coord.number_at at + 1) ≡ None
+none_after sc c at wanted homes passed begins ends moves = by_txn (slice_get sc.txns c.txn.0) refl
+  where
+    by_txn : (found : Option Transaction) → slice_get sc.txns c.txn.0 ≡ found → option_and_then (λ (declared : Transaction). query_at declared (coord.number_at at + 1)) found ≡ None
+    by_txn None e = refl
+    by_txn (Some declared) e = query_after declared (coord.number_at at) ∙ slice_get_past declared.queries (coord.number_at at) (none_left sc c at wanted declared homes passed begins ends e moves)
+
+-- a query of the next number has the number after
+pub next_there : (sc : Scenario) (c : Coordinator) (number : ℕ) → HaveHomes sc → is_some (coord.own_query sc c (coord.next_number number)) ≡ true → coord.next_number number ≡ number + 1
+next_there sc c number homes some = by_txn (slice_get sc.txns c.txn.0) refl some
+  where
+    by_query : (declared : Transaction) (n : ℕ) (asked : Option Query) → slice_get declared.queries n ≡ asked → is_some asked ≡ true → suc n ≤ length declared.queries
+    by_query declared n None e there = absurd (cc)
+    by_query declared n (Some asked) e there = let within = slice_get_within declared.queries n asked e in omega (arith, within)
+
+    within : (declared : Transaction) (n : ℕ) → is_some (query_at declared n) ≡ true → n ≤ length declared.queries
+    within declared zero there = omega arith
+    within declared (suc n) there = by_query declared n (slice_get declared.queries n) refl there
+
+    by_txn : (found : Option Transaction) → slice_get sc.txns c.txn.0 ≡ found → is_some (option_and_then (λ (declared : Transaction). query_at declared (coord.next_number number)) found) ≡ true → coord.next_number number ≡ number + 1
+    by_txn None e there = absurd (cc)
+    by_txn (Some declared) e there =
+        let few : length declared.queries ≤ 16 = homes.few c.txn.0 declared e in
+        let up : coord.next_number number ≤ length declared.queries = within declared (coord.next_number number) there in
+        let low : coord.next_number number ≤ 16 = omega (arith, few, up) in
+        omega (arith, low)
+
 -- ---- Done
 
 pub from_server : (from : Actor) (at : ServerId) → coord.is_from from at ≡ true → from ≡ actor.Server at
@@ -115,7 +171,7 @@ asked_chosen true epoch n kept same e = ap (λ (k : ℕ). Some k) (same refl)
 asked_chosen false epoch n kept same e = e
 
 -- the reply to the query that is awaited, from its server
-record IsAnswer (sc : Scenario) (E : ℕ → ℕ) (A : Asking) (c : Coordinator) (done : DoneReply) (asked : Query) (at : ServerId) : Type 0 where
+pub record IsAnswer (sc : Scenario) (E : ℕ → ℕ) (A : Asking) (c : Coordinator) (done : DoneReply) (asked : Query) (at : ServerId) : Type 0 where
   pub staple : Option Staple
   pub awaits : c.phase ≡ phase.Querying done.query staple
   pub asked_is : query_in sc c.txn done.query ≡ Some asked
@@ -138,19 +194,21 @@ told_is_asked sc E A c done asked at epoch false later m k e =
     (m.told.asked m.ran (subst (λ (t : TxnId). is_first_at sc at t done.query ≡ false) (sym m.own) later)) in
     same_Some done.epoch epoch (sym told ∙ e)
 
-each_server : (sc : Scenario) (c : Coordinator) (K : ServerId → Type 0) → c.servers ≡ servers_at sc c.txn → ((at : ServerId) → has_item_at sc at c.txn ≡ true → K at) → Each K c.servers
+-- what holds of each server with an item of the transaction holds of all of its servers
+pub each_server : (sc : Scenario) (c : Coordinator) (K : ServerId → Type 0) → c.servers ≡ servers_at sc c.txn → ((at : ServerId) → has_item_at sc at c.txn ≡ true → K at) → Each K c.servers
 each_server sc c K e h =
     subst (λ (servers : List ServerId). Each K servers) (sym e)
     (each_as (λ (at : ServerId). has_item_at sc at c.txn ≡ true) K (λ at item. h at item) (servers_at sc c.txn) (servers_at_have_items sc c.txn))
 
--- a coordinator once the answer's epoch is kept
-record DeedKept (sc : Scenario) (E : ℕ → ℕ) (A : Asking) (c : Coordinator) (number : ℕ) (next : Coordinator) : Type 0 where
+-- a coordinator that keeps an epoch of each server at which one of the queries up to this one ran
+pub record DeedKept (sc : Scenario) (E : ℕ → ℕ) (A : Asking) (c : Coordinator) (number : ℕ) (next : Coordinator) : Type 0 where
   pub places : length next.epochs ≡ length sc.servers
   pub past : EachPlaced (λ (n : ℕ) (epoch : ℕ). epoch ≤ E n) next.epochs
   pub asked : (s : ServerId) (epoch : ℕ) → A c.txn s ≡ Some epoch → kept_epoch next s ≡ Some epoch
   pub ran : (s : ServerId) → is_some (kept_epoch next s) ≡ list_any (is_at_server sc s.0) (take number (queries_of sc c.txn))
 
-deed_keeps : (sc : Scenario) (E : ℕ → ℕ) (A : Asking) (c : Coordinator) (done : DoneReply) (asked : Query) (at : ServerId) (value : ℤ) → CoordinatorKeeps sc E (A c.txn) c
+-- so it does once the answer's epoch is kept
+pub deed_keeps : (sc : Scenario) (E : ℕ → ℕ) (A : Asking) (c : Coordinator) (done : DoneReply) (asked : Query) (at : ServerId) (value : ℤ) → CoordinatorKeeps sc E (A c.txn) c
     → IsAnswer sc E A c done asked at → DeedKept sc E A c done.query (coord.with_deed c at done asked value)
 deed_keeps sc E A c done asked at value h m =
     let k : KeepsAsked sc (A c.txn) c = h.undecided (ap is_undecided m.awaits) in
@@ -172,29 +230,6 @@ deed_keeps sc E A c done asked at value h m =
           ∙ sym (next_ran sc c.txn done.query asked (is_at_server sc s.0) m.asked_is))));
     }
 
--- the coordinator with the deed, and with an instance of its proof if it has one
-abbrev pub with_ran : Coordinator → ServerId → DoneReply → Query → ℤ → Option Verdict → Coordinator
-with_ran c at done asked value proof = coord.with_proof (coord.with_deed c at done asked value) proof
-
--- the last query ran: all servers are asked to prepare
-last_keeps : (sc : Scenario) (E : ℕ → ℕ) (A : Asking) (c : Coordinator) (done : DoneReply) (asked : Query) (at : ServerId) (value : ℤ) (proof : Option Verdict) → CoordinatorKeeps sc E (A c.txn) c
-    → c.servers ≡ servers_at sc c.txn → IsAnswer sc E A c done asked at → query_in sc c.txn (done.query + 1) ≡ None → RowKeeps sc E A c (coord.asks (with_ran c at done asked value proof) span.Commit (coord.commit_round sc c))
-last_keeps sc E A c done asked at value proof h servers m last =
-    let now = with_ran c at done asked value proof in
-    let next = (coord.asks now span.Commit (coord.commit_round sc c)).state in
-    let k = deed_keeps sc E A c done asked at value h m in
-    let ran : (s : ServerId) → is_some (kept_epoch next s) ≡ has_run_at sc c.txn next.phase s = λ s. k.ran s ∙ ap (list_any (is_at_server sc s.0)) (all_ran sc c.txn done.query last) in
-    plain_keeps sc E A c.txn (Some next) (coord.asks now span.Commit (coord.commit_round sc c)).reaction.letters
-    (record {
-      places = k.places;
-      past = k.past;
-      undecided = λ unsure. record {
-        asked = k.asked;
-        ran = ran;
-        round = each_started (KeepsEpoch next) c.servers (each_server sc c (KeepsEpoch next) servers (λ s item. ran s ∙ (late_has_run sc c.txn next.phase s refl ∙ item)));
-      };
-    }) (tt, tt)
-
 -- ---- Query
 
 names_told : (c : Coordinator) (at : ServerId) (told : Option ℕ) → kept_epoch c at ≡ told → IfSome (option_map (naming c.txn) told) (IsKeptNaming c.txn (kept_epoch c) (actor.Server at))
@@ -205,49 +240,28 @@ none_or_some : (told : Option ℕ) (b : Bool) → is_some told ≡ b → is_none
 none_or_some None b e = ap not e
 none_or_some (Some epoch) b e = ap not e
 
+-- a coordinator goes on to a phase with requests that name what is kept
+pub requests_keep : (sc : Scenario) (E : ℕ → ℕ) (A : Asking) (c : Coordinator) (turn : ℕ) (next : Phase) (letters : List Letter) → length c.epochs ≡ length sc.servers → EachPlaced (λ (n : ℕ) (epoch : ℕ). epoch ≤ E n) c.epochs
+    → ((s : ServerId) (epoch : ℕ) → A c.txn s ≡ Some epoch → kept_epoch c s ≡ Some epoch) → ((s : ServerId) → is_some (kept_epoch c s) ≡ has_run_at sc c.txn next s) → PhaseKept (KeepsEpoch c) next → Each (NamesKept c.txn (kept_epoch c)) letters
+    → Each (LetterFirst sc) letters → Each (LetterTold sc (asked_then A letters) E) letters → CoordinatorEpochs sc E A c.txn (Some (record c { turn = turn; phase = next })) letters
+requests_keep sc E A c turn next letters places past asked ran round names first told =
+    record {
+      keeps = record {
+        places = places;
+        past = past;
+        undecided = λ unsure. record { asked = λ s epoch. then_kept A c.txn s (kept_epoch c) letters (asked s) names epoch; ran = ran; round = round };
+      };
+      own = kept_are_own c.txn (kept_epoch c) letters names;
+      sent = record { named = kept_are_asked A c.txn (kept_epoch c) letters asked names; first = first; told = told };
+    }
+
 -- a query is asked, of the epoch that is kept of its server
 pub query_keeps : (sc : Scenario) (E : ℕ → ℕ) (A : Asking) (c : Coordinator) (number : ℕ) (staple : Option Staple) (at : ServerId) → length c.epochs ≡ length sc.servers
     → EachPlaced (λ (n : ℕ) (epoch : ℕ). epoch ≤ E n) c.epochs → ((s : ServerId) (epoch : ℕ) → A c.txn s ≡ Some epoch → kept_epoch c s ≡ Some epoch) → ((s : ServerId) → is_some (kept_epoch c s) ≡ has_run_at sc c.txn (phase.Querying number staple) s)
     → RowKeeps sc E A c (coord.sends_query sc c number staple at)
 query_keeps sc E A c number staple at places past asked ran =
-    let letters = (coord.sends_query sc c number staple at).reaction.letters in
-    let names : Each (NamesKept c.txn (kept_epoch c)) letters = (names_told c at (kept_epoch c at) refl, tt) in
-    record {
-      keeps = record {
-        places = places;
-        past = past;
-        undecided = λ unsure. record { asked = λ s epoch. then_kept A c.txn s (kept_epoch c) letters (asked s) names epoch; ran = ran; round = tt };
-      };
-      own = kept_are_own c.txn (kept_epoch c) letters names;
-      sent = record {
-        named = kept_are_asked A c.txn (kept_epoch c) letters asked names;
-        first = (none_or_some (kept_epoch c at) (has_run_at sc c.txn (phase.Querying number staple) at) (ran at), tt);
-        told = (tt, tt);
-      };
-    }
-
--- before a further query those up to the one that ran have run
-ran_before_next : (sc : Scenario) (E : ℕ → ℕ) (A : Asking) (c : Coordinator) (done : DoneReply) (asked : Query) (at : ServerId) (value : ℤ) → DeedKept sc E A c done.query (coord.with_deed c at done asked value)
-    → coord.next_number done.query ≡ done.query + 1 → (s : ServerId) → is_some (kept_epoch (coord.with_deed c at done asked value) s) ≡ has_run_at sc c.txn (phase.Stapling (coord.next_number done.query)) s
-ran_before_next sc E A c done asked at value k further s =
-    let before : done.query ≡ coord.next_number done.query - 1 = omega (arith, further) in
-    k.ran s ∙ ap (λ (n : ℕ). list_any (is_at_server sc s.0) (take n (queries_of sc c.txn))) before
-
--- the authority is asked before a further query
-staple_keeps : (sc : Scenario) (E : ℕ → ℕ) (A : Asking) (c : Coordinator) (done : DoneReply) (asked : Query) (at : ServerId) (value : ℤ) (proof : Option Verdict) → CoordinatorKeeps sc E (A c.txn) c
-    → IsAnswer sc E A c done asked at → coord.next_number done.query ≡ done.query + 1 → RowKeeps sc E A c (coord.asks_in (with_ran c at done asked value proof) (phase.Stapling (coord.next_number done.query)))
-staple_keeps sc E A c done asked at value proof h m further =
-    let next = (coord.asks_in (with_ran c at done asked value proof) (phase.Stapling (coord.next_number done.query))).state in
-    let k = deed_keeps sc E A c done asked at value h m in
-    plain_keeps sc E A c.txn (Some next) (coord.ask_letter c (coord.next_turn c) ∷ [])
-    (record { places = k.places; past = k.past; undecided = λ unsure. record { asked = k.asked; ran = ran_before_next sc E A c done asked at value k further; round = tt } }) (tt, tt)
-
--- a further query is to run
-next_keeps : (sc : Scenario) (E : ℕ → ℕ) (A : Asking) (c : Coordinator) (done : DoneReply) (asked : Query) (at next : ServerId) (value : ℤ) (proof : Option Verdict) → CoordinatorKeeps sc E (A c.txn) c
-    → IsAnswer sc E A c done asked at → coord.next_number done.query ≡ done.query + 1 → RowKeeps sc E A c (coord.sends_query sc (with_ran c at done asked value proof) (coord.next_number done.query) None next)
-next_keeps sc E A c done asked at next value proof h m further =
-    let k = deed_keeps sc E A c done asked at value h m in
-    query_keeps sc E A (with_ran c at done asked value proof) (coord.next_number done.query) None next k.places k.past k.asked (ran_before_next sc E A c done asked at value k further)
+    requests_keep sc E A c (coord.next_turn c) (phase.Querying number staple) (coord.sends_query sc c number staple at).reaction.letters places past asked ran tt (names_told c at (kept_epoch c at) refl, tt)
+    (none_or_some (kept_epoch c at) (has_run_at sc c.txn (phase.Querying number staple) at) (ran at), tt) (tt, tt)
 
 -- what a coordinator knows of the mail's sender and transaction
 pub record IsDoneMail (sc : Scenario) (E : ℕ → ℕ) (A : Asking) (c : Coordinator) (from : Actor) (done : DoneReply) : Type 0 where
@@ -255,7 +269,7 @@ pub record IsDoneMail (sc : Scenario) (E : ℕ → ℕ) (A : Asking) (c : Coordi
   pub told : BodyTold sc A E from (body.Done done)
   pub own : done.txn ≡ c.txn
 
-is_answer : (sc : Scenario) (E : ℕ → ℕ) (A : Asking) (c : Coordinator) (mail : Mail) (done : DoneReply) (at : ServerId) (asked : Query) (value : ℤ) (proof : Option Verdict) → IsDoneMail sc E A c mail.letter.from done
+pub is_answer : (sc : Scenario) (E : ℕ → ℕ) (A : Asking) (c : Coordinator) (mail : Mail) (done : DoneReply) (at : ServerId) (asked : Query) (value : ℤ) (proof : Option Verdict) → IsDoneMail sc E A c mail.letter.from done
     → IsRanAnswer sc c mail done at asked value proof → IsAnswer sc E A c done asked at
 is_answer sc E A c mail done at asked value proof m k =
     let is : mail.letter.from ≡ actor.Server at = from_server mail.letter.from at k.from_is in
@@ -270,27 +284,6 @@ is_answer sc E A c mail done at asked value proof m k =
       told = subst (λ (a : Actor). BodyTold sc A E a (body.Done done)) is m.told;
       own = m.own;
     }
-
--- the answer to the last query
-pub ran_last_keeps : (sc : Scenario) (E : ℕ → ℕ) (A : Asking) (c : Coordinator) (mail : Mail) (done : DoneReply) (at : ServerId) (asked : Query) (value : ℤ) (proof : Option Verdict) → HaveHomes sc
-    → CoordinatorKeeps sc E (A c.txn) c → c.servers ≡ servers_at sc c.txn → IsDoneMail sc E A c mail.letter.from done → IsRanAnswer sc c mail done at asked value proof → coord.move_after sc c done.query ≡ move.CommitRounds
-    → RowKeeps sc E A c (coord.asks (with_ran c at done asked value proof) span.Commit (coord.commit_round sc c))
-ran_last_keeps sc E A c mail done at asked value proof homes h servers m k moves =
-    last_keeps sc E A c done asked at value proof h servers (is_answer sc E A c mail done at asked value proof m k) (last_is sc c done.query asked homes k.asked_is moves)
-
--- the answer to another one, which is followed by the next query
-pub ran_next_keeps : (sc : Scenario) (E : ℕ → ℕ) (A : Asking) (c : Coordinator) (mail : Mail) (done : DoneReply) (at : ServerId) (asked : Query) (value : ℤ) (proof : Option Verdict) (next : ServerId) → HaveHomes sc
-    → CoordinatorKeeps sc E (A c.txn) c → IsDoneMail sc E A c mail.letter.from done → IsRanAnswer sc c mail done at asked value proof
-    → RowKeeps sc E A c (coord.sends_query sc (with_ran c at done asked value proof) (coord.next_number done.query) None next)
-ran_next_keeps sc E A c mail done at asked value proof next homes h m k =
-    next_keeps sc E A c done asked at next value proof h (is_answer sc E A c mail done at asked value proof m k) (next_is sc c done.query asked homes k.asked_is)
-
--- or by a request to the authority before it
-pub ran_staple_keeps : (sc : Scenario) (E : ℕ → ℕ) (A : Asking) (c : Coordinator) (mail : Mail) (done : DoneReply) (at : ServerId) (asked : Query) (value : ℤ) (proof : Option Verdict) → HaveHomes sc
-    → CoordinatorKeeps sc E (A c.txn) c → IsDoneMail sc E A c mail.letter.from done → IsRanAnswer sc c mail done at asked value proof
-    → RowKeeps sc E A c (coord.asks_in (with_ran c at done asked value proof) (phase.Stapling (coord.next_number done.query)))
-ran_staple_keeps sc E A c mail done at asked value proof homes h m k =
-    staple_keeps sc E A c done asked at value proof h (is_answer sc E A c mail done at asked value proof m k) (next_is sc c done.query asked homes k.asked_is)
 
 -- ---- timers
 

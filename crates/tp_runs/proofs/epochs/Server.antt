@@ -23,7 +23,7 @@ use Rattle.tp_types.specs.Each.{Each, EachPlaced}
 use Rattle.tp_server.specs.declared.server.Entry.{Entry}
 use Rattle.tp_server.specs.Row as server
 use Rattle.tp_server.specs.State.{Server}
-use Rattle.tp_server.specs.Verdicts.{with_wants, verdicts_on}
+use Rattle.tp_server.specs.Verdicts.{with_wants}
 
 -- ---- what is said of epochs
 
@@ -342,9 +342,11 @@ server_row_made sc A s kept mail waits h first m =
     server_by sc s mail (RowEpochs sc A s kept) waits
     (record {
       relocked = λ effect locks k. record { made = record { epoch_is = k.made.epoch_is; entries = k.made.entries }; forces = k.forces; replies = k.replies };
+      relearnt = λ effect admin pin k. record { made = record { epoch_is = k.made.epoch_is; entries = k.made.entries }; forces = k.forces; replies = k.replies };
       ignored = ignores_made sc A s kept h;
       ran = λ q query entry value proof k r. runs_made sc A s kept q query entry (deed_of q.query query value) proof h (asking q query entry value k);
       denied = λ q query entry value verdict k d. denies_made sc A s kept q entry (answer.Denied verdict) h (asking q query entry value k);
+      outdated = λ q query entry value newer k known. denies_made sc A s kept q entry (answer.Newer newer) h (asking q query entry value k);
       waited = λ q query entry value k.
           let r = asking q query entry value k in
           entry_made sc A s kept q.txn (record entry { waiting = Some q }) [] h
@@ -354,9 +356,11 @@ server_row_made sc A s kept mail waits h first m =
       answered = λ q entry given k.
           answers_made sc A s kept q given h
           (each_found (DoneMade sc A s.server s.epoch) (λ (d : DoneReply). d.query == q.query) entry.answers given (h.entries q.txn.0 entry k.found).answers k.given_is);
-      voted = λ p entry staple txn k.
+      voted = λ p entry verdicts k.
           let asked : A p.txn s.server ≡ Some p.epoch = subst (λ (said : Body). IfSome (naming_of said) (IsAsked A (actor.Server s.server))) k.said_is m in
-          votes_made sc A s kept p (verdicts_on sc (with_wants s p.want) txn staple p.want entry.deeds) entry h k.found (eqb-true entry.epoch p.epoch k.same_epoch) asked;
+          votes_made sc A s kept p verdicts entry h k.found (eqb-true entry.epoch p.epoch k.same_epoch) asked;
+      shown = λ v entry txn k. record { made = record { epoch_is = h.epoch_is; entries = h.entries }; forces = tt; replies = (tt, tt) };
+      lost_verdicts = λ v k. record { made = h; forces = tt; replies = (tt, tt) };
       voted_again = λ p entry cast k. record { made = h; forces = tt; replies = (tt, tt) };
       refused = λ p entry number value k. ends_made sc A s kept (server.refused_as p _) (server.no_letter s p _) h tt;
       lost = λ p k. ends_made sc A s kept (server.refused_as p _) (server.no_letter s p _) h tt;
@@ -366,6 +370,7 @@ server_row_made sc A s kept mail waits h first m =
       pushed = λ push k. learns_made sc A s kept push h;
       resumed = λ effect grant q query entry value proof k r now. resumes_made sc A s kept effect grant q query entry value proof k now;
       resumed_denied = λ effect grant q query entry value verdict k d now. resumes_unrun sc A s kept effect grant q query entry value (answer.Denied verdict) k now;
+      resumed_outdated = λ effect grant q query entry value newer k known now. resumes_unrun sc A s kept effect grant q query entry value (answer.Newer newer) k now;
     })
   where
     first_is : (q : QueryRequest) → mail.letter.body ≡ body.Query q → is_none q.epoch ≡ is_first_at sc s.server q.txn q.query

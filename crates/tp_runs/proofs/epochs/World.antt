@@ -317,6 +317,18 @@ mail_is sc E A c from to (body.Done done) sound e told =
     record { from_is_actor = sound.from_is_actor; told = told; own = same_txn_from c.txn done.txn (sym e ∙ sound.says.goes_to) }
 mail_is sc E A c from to _ sound e told = tt
 
+-- the row of a coordinator on a mail that was sent
+pub coordinator_sends_keep : (sc : Scenario) (w : State) → HaveHomes sc → IsSound sc w → Agrees sc w → Epochs sc w → (n : ℕ) (mail : Mail) (txn : TxnId) (part : Part Coordinator) (c : Coordinator) → WasSent w n mail (actor.Coordinator txn) → IsCoordinatorUp w txn part c
+    → CoordinatorEpochs sc (epoch_at w.actors.servers) (asked_in w.mails) c.txn (Some (coordinator_row sc c mail).state) (coordinator_row sc c mail).reaction.letters
+coordinator_sends_keep sc w homes sound a h n mail txn part c sent up =
+    let E = epoch_at w.actors.servers in
+    let A = asked_in w.mails in
+    let same : c.txn ≡ txn = own_txn sc w txn part c sound up.found up.up in
+    let own : CoordinatorUpAgrees sc w.actors.servers txn part.log c = subst (λ (u : Option Coordinator). IfSome u (CoordinatorUpAgrees sc w.actors.servers txn part.log)) up.up (a.coordinators txn.0 part up.found).state in
+    coordinator_row_keeps sc E A c mail homes (coordinator_keeps sc w txn part c h up same) own.agrees.servers
+    (mail_is sc E A c mail.letter.from mail.letter.to mail.letter.body (each_get (IsSoundMail sc) w.mails n mail sound.mails_are sent.sent) (sent.goes_to ∙ ap (λ (t : TxnId). actor.Coordinator t) (sym same))
+    (each_get (λ (m : Mail). LetterTold sc A E m.letter) w.mails n mail h.told sent.sent))
+
 receipt_by_coordinator_in_epochs : (sc : Scenario) (w : State) → HaveHomes sc → IsSound sc w → Agrees sc w → Epochs sc w → (n : ℕ) (mail : Mail) (txn : TxnId) (part : Part Coordinator) (c : Coordinator)
     → WasSent w n mail (actor.Coordinator txn) → IsCoordinatorUp w txn part c → StepEpochs sc w (coordinator_move w.actors txn (acts_by coordinator_fact [] part.log (coordinator_row sc c mail)))
 receipt_by_coordinator_in_epochs sc w homes sound a h n mail txn part c sent up =
@@ -324,12 +336,8 @@ receipt_by_coordinator_in_epochs sc w homes sound a h n mail txn part c sent up 
     let A = asked_in w.mails in
     let effect = coordinator_row sc c mail in
     let same : c.txn ≡ txn = own_txn sc w txn part c sound up.found up.up in
-    let own : CoordinatorUpAgrees sc w.actors.servers txn part.log c = subst (λ (u : Option Coordinator). IfSome u (CoordinatorUpAgrees sc w.actors.servers txn part.log)) up.up (a.coordinators txn.0 part up.found).state in
     coordinator_acts_epochs sc w txn part [] (Some effect.state) effect.reaction.append effect.reaction.letters h up.found
-    (subst (λ (t : TxnId). CoordinatorEpochs sc E A t (Some effect.state) effect.reaction.letters) same
-    (coordinator_row_keeps sc E A c mail homes (coordinator_keeps sc w txn part c h up same) own.agrees.servers
-    (mail_is sc E A c mail.letter.from mail.letter.to mail.letter.body (each_get (IsSoundMail sc) w.mails n mail sound.mails_are sent.sent) (sent.goes_to ∙ ap (λ (t : TxnId). actor.Coordinator t) (sym same))
-    (each_get (λ (m : Mail). LetterTold sc A E m.letter) w.mails n mail h.told sent.sent))))
+    (subst (λ (t : TxnId). CoordinatorEpochs sc E A t (Some effect.state) effect.reaction.letters) same (coordinator_sends_keep sc w homes sound a h n mail txn part c sent up))
 
 begun_epochs : (sc : Scenario) (w : State) → IsSound sc w → Epochs sc w → (txn : TxnId) (part : Part Coordinator) (c : Coordinator) → IsCoordinatorUp w txn part c → is_part_submitted (Some c) ≡ false
     → StepEpochs sc w (coordinator_move w.actors txn (acts_by coordinator_fact (what.Submitted txn ∷ []) part.log (with_age (submit_row sc c) (length w.steps))))

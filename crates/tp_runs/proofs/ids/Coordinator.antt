@@ -1,44 +1,38 @@
 -- The coordinator's rows keep its state sound, force a sound record, and send sound letters.
-use Rattle.std.specs.List.{find}
-use Rattle.std.specs.Option.{option_map_or}
-use Rattle.std.proofs.Common.{IfSome, List, None, Option, Some, [], ap, arith, filter, is_some, length, map, nat_lt, option_and_then, option_map, option_to_list, refl, slice_get, subst, sym, true, unwrap_or, ℕ, ℤ, ◌++◌, ◌<◌, ◌∷◌, ◌≡◌, ◌≤◌}
+use Rattle.std.proofs.Common.{Bool, IfSome, List, None, Option, Some, [], ap, arith, false, filter, is_some, length, map, nat_lt, option_and_then, option_map, option_to_list, refl, replicate, slice_get, subst, sym, true, unwrap_or, ℕ, ℤ, ◌++◌, ◌<◌, ◌∙◌, ◌∷◌, ◌≡◌, ◌≤◌}
 use Rattle.std.proofs.lemmas.Bool.{and_parts, ltb-true}
 use Rattle.std.proofs.lemmas.List.{length-append}
 use Rattle.std.proofs.lemmas.Option.{same_Some, slice_get_within}
+use Rattle.std.specs.List.{find}
+use Rattle.std.specs.Option.{option_map_or}
+use Rattle.tp_types.proofs.EachLemmas.{by_cond, each_append, each_as, each_filter, each_flat_map, each_found, each_get, each_map, each_more, each_passing, found_passes, some_if_not_none, some_value}
+use Rattle.tp_types.specs.Each.{Each}
 use Rattle.tp_types.specs.Effect.{Effect, ignores, sends}
+use Rattle.tp_model.specs.Deeds.{deed_of}
 use Rattle.tp_model.specs.Ids.{same_server}
+use Rattle.tp_model.specs.Levels.{is_global}
+use Rattle.tp_model.specs.Limits.{admins_limit, count_limit}
 use Rattle.tp_model.specs.Queries.{item_of, query_at}
+use Rattle.tp_model.specs.Words.{Actor, AdminId, Answer, Body, Cause, DoneReply, Instance, Item, Mail, Met, Newer, NewestReply, Outcome, Query, Reading, Scenario, Scheme, ServerId, Staple, TellReply, Transaction, TxnId, Verdict, Version, VoteReply}
 use Rattle.tp_model.specs.Words.actor
 use Rattle.tp_model.specs.Words.answer
 use Rattle.tp_model.specs.Words.body
 use Rattle.tp_model.specs.Words.cause
+use Rattle.tp_model.specs.Words.level
 use Rattle.tp_model.specs.Words.no
 use Rattle.tp_model.specs.Words.outcome
 use Rattle.tp_model.specs.Words.query
-use Rattle.tp_model.specs.Words.{Actor, AdminId, Answer, Body, Cause, DoneReply, Instance, Item, Mail, Met, Outcome, Query, Reading, Scenario, ServerId, Staple, TellReply, Transaction, TxnId, Verdict, Version, VoteReply}
-use Rattle.tp_model.specs.Limits.{count_limit}
-use Rattle.tp_runs.proofs.basics.Homes.{IsHome, asked_there, begun_after, home_is, sent_unproved}
-use Rattle.tp_runs.proofs.basics.Levels.{global_of_all}
-use Rattle.tp_runs.proofs.basics.Ids.{same_txn_from}
-use Rattle.tp_types.proofs.EachLemmas.{by_cond, each_append, each_as, each_filter, each_flat_map, each_found, each_get, each_map, each_more, each_passing, found_passes, some_if_not_none, some_value}
-use Rattle.tp_runs.proofs.ids.Server.{version_of}
-use Rattle.tp_runs.proofs.ids.Valid.{IsValid, IsValidItem}
-use Rattle.tp_scheme.specs.declared.moves.Move.TheVariants as move
-use Rattle.tp_scheme.specs.declared.moves.Point.TheVariants as point
-use Rattle.tp_coord.proofs.Rows.{AllTrue, ByDenial, ByLoss, ByOlder, ByProof, ByReading, ByRefusal, ByRestart, ByRounds, ByVotes, Gained, HasVoted, IsAwaitedAnswer, IsEnded, IsJudged, IsNo, IsPassed, IsYes, QueryRan, coordinator_by, gains_deed, gains_instances, submit_by, timer_by, with_gained}
-use Rattle.tp_model.specs.Deeds.{deed_of}
-use Rattle.tp_runs.specs.Sound.{AreSoundVerdicts, AreVersions, AreWanted, IsActor, IsItemOf, IsQuery, IsRefusalOf, IsSoundAnswer, IsSoundBallot, IsSoundBody, IsSoundCause, IsSoundCoordinator, IsSoundCoordinatorRecord, IsSoundDeed, IsSoundInstance, IsSoundLetter, IsSoundMet, IsSoundPhase, IsSoundProof, IsSoundQuery, IsSoundRefusal, IsSoundRound, IsSoundStaple, IsSoundTarget, IsSoundVerdict, IsSoundWanted, IsVersion, IsVersionOf, ProvesEach, query_in}
-use Rattle.tp_types.specs.Each.{Each}
-use Rattle.tp_server.specs.Values.{HasValue}
-use Rattle.tp_machine.specs.Named.{IsAdmin, IsServer}
-use Rattle.tp_coord.specs.Sums.{asked_value, registers_after, sum_asked}
-use Rattle.tp_coord.specs.Row.{aborts, ask_letter, asks_in, commit_round, commits, coordinator_row, coordinator_with_age, decide_letters, denied_by, died_for, level_at, move_at, next_number, next_turn, own_query, place_of, prepare_letter, prepares, probe_letter, probes, query_request, reading_of, refused_by, repeats, request, sends_query, staple_of, submit_row, value_of, with_own, without}
+use Rattle.tp_model.specs.Words.scheme
+use Rattle.tp_coord.proofs.Rows.{AfterQuery, AfterVotes, AllTrue, AllVoted, ByDenial, ByLoss, ByLostVerdicts, ByNewer, ByNewest, ByOlder, ByProof, ByReading, ByRefusal, ByReplies, ByRestart, ByRounds, ByVerdicts, ByVote, Gained, IsAwaitedAnswer, IsEnded, IsJudged, IsNo, IsPassed, IsProbing, IsReply, ProofsRead, QueryRan, coordinator_by, gains_deed, gains_instances, submit_by, timer_by, with_gained}
+use Rattle.tp_coord.specs.Row.{aborts, admin_of, ask_letter, asks_in, asks_votes, checks, closed_by, commit_round, commits, coordinator_row, coordinator_with_age, decide_letters, denied_by, died_for, gathered_by, instances_with, level_at, move_at, next_at, next_number, next_turn, number_at, own_query, pin_for, place_of, point_of, probe_letter, probes, probing_at, query_request, reading_of, refused_by, repeats, request, round_letter, round_letters, round_of, scheme_at, sends_query, servers_upto, staple_of, stays, submit_row, validation_round, value_of, vote_letter, vote_letters, with_all, with_gathered, with_own, without}
 use Rattle.tp_coord.specs.State.{Coordinator}
-use Rattle.tp_coord.specs.declared.coordinator.Phase.TheVariants as phase
+use Rattle.tp_coord.specs.Sums.{asked_value, registers_after, sum_asked}
 use Rattle.tp_coord.specs.declared.coordinator.Phase.{Phase}
+use Rattle.tp_coord.specs.declared.coordinator.Phase.TheVariants as phase
+use Rattle.tp_coord.specs.declared.coordinator.Span.{Span}
 use Rattle.tp_coord.specs.declared.coordinator.Span.TheVariants as span
-use Rattle.tp_runs.proofs.basics.Aims.{IsOf, aim_has, least_from}
-use Rattle.tp_runs.proofs.basics.Rounds.{each_by_query, each_missing, missing_in, updated_is}
+use Rattle.tp_machine.specs.Named.{IsAdmin, IsServer}
+use Rattle.tp_round.proofs.AdminLemmas.{same_ids}
 use Rattle.tp_round.proofs.AgainLemmas.{updated}
 use Rattle.tp_round.proofs.AgreedLemmas.{all_agree, false_is_least}
 use Rattle.tp_round.proofs.MetLemmas.{spent_has_all_mets}
@@ -49,6 +43,22 @@ use Rattle.tp_round.specs.declared.round.Judged.TheVariants as judged
 use Rattle.tp_round.specs.declared.round.Round.{Round}
 use Rattle.tp_round.specs.declared.round.Target.{Target}
 use Rattle.tp_round.specs.declared.round.Wanted.{Wanted}
+use Rattle.tp_scheme.proofs.BelowLemmas.{finds_the_first_below}
+use Rattle.tp_scheme.specs.Gathered.{is_of, older, pin_of}
+use Rattle.tp_scheme.specs.declared.moves.Move.TheVariants as move
+use Rattle.tp_scheme.specs.declared.moves.Point.{Point}
+use Rattle.tp_scheme.specs.declared.moves.Point.TheVariants as point
+use Rattle.tp_server.specs.Values.{HasValue}
+use Rattle.tp_runs.proofs.basics.Aims.{IsOf, aim_has, least_from}
+use Rattle.tp_runs.proofs.basics.Homes.{IsHome, asked_there, begun_after, home_is, is_of_query, is_probed, is_ran, probed_there, sent_unproved, validated_ran}
+use Rattle.tp_runs.proofs.basics.Ids.{same_txn_from}
+use Rattle.tp_runs.proofs.basics.Levels.{global_of_all}
+use Rattle.tp_runs.proofs.basics.Passed.{passed_past, ran_there, reply_checking, reply_from}
+use Rattle.tp_runs.proofs.basics.Rounds.{each_by_query, each_missing, missing_in, updated_is}
+use Rattle.tp_runs.proofs.basics.Servers.{servers_upto_each}
+use Rattle.tp_runs.proofs.ids.Server.{version_of}
+use Rattle.tp_runs.proofs.ids.Valid.{IsValid, IsValidItem}
+use Rattle.tp_runs.specs.Sound.{AreSoundVerdicts, AreVersions, AreWanted, IsActor, IsItemOf, IsQuery, IsRefusalOf, IsSoundAnswer, IsSoundBallot, IsSoundBody, IsSoundCause, IsSoundCoordinator, IsSoundCoordinatorRecord, IsSoundDeed, IsSoundInstance, IsSoundLetter, IsSoundMet, IsSoundNewer, IsSoundPhase, IsSoundProof, IsSoundQuery, IsSoundRefusal, IsSoundRound, IsSoundSpan, IsSoundStaple, IsSoundTarget, IsSoundVerdict, IsSoundWanted, IsVersion, IsVersionOf, ProvesEach, query_in}
 
 -- what a coordinator's act leaves is sound: its state, still of the same transaction, what it forces and what it sends
 pub record IsSoundCoordinatorEffect (sc : Scenario) (c : Coordinator) (effect : Effect Coordinator) : Type 0 where
@@ -102,6 +112,25 @@ has_value sc c number asked e = found (slice_get sc.txns c.txn.0) e
     found None f = absurd (cc)
     found (Some declared) f = valued (registers_after declared c.deeds) asked (query_at declared number) f
 
+-- the version that gathered proofs pin of an administrator, if they pin one, is one of it
+pin_sound : (sc : Scenario) (txn : TxnId) (gathered : List Verdict) (admin : AdminId) → Each (IsSoundProof sc txn) gathered → IfSome (pin_of gathered admin) (IsVersion sc admin)
+pin_sound sc txn gathered admin h = of_found (find (is_of admin) gathered) refl
+  where
+    of_found : (found : Option Verdict) → find (is_of admin) gathered ≡ found → IfSome (option_map (λ (proof : Verdict). proof.version) found) (IsVersion sc admin)
+    of_found None e = tt
+    of_found (Some proof) e =
+        let sound : IsSoundProof sc txn proof = each_found (IsSoundProof sc txn) (is_of admin) gathered proof h e in
+        subst (λ (a : AdminId). IsVersion sc a proof.version) (same_ids proof.admin admin (found_passes (is_of admin) gathered proof e)) sound.sound.version
+
+-- the pin of a query is one of its item's administrator
+query_pin : (sc : Scenario) (c : Coordinator) (number : ℕ) (asked : Query) (item : Item) → IsSoundCoordinator sc c → own_query sc c number ≡ Some asked → slice_get sc.items (item_of asked).0 ≡ Some item
+    → IfSome (pin_for sc c number) (IsVersion sc item.admin)
+query_pin sc c number asked item h asked_is item_is =
+    let pin_is : pin_for sc c number ≡ pin_of c.gathered item.admin =
+    ap (λ (query : Option Query). option_and_then (pin_of c.gathered) (option_and_then (admin_of sc) query)) asked_is
+    ∙ ap (λ (found : Option Item). option_and_then (pin_of c.gathered) (option_map (λ (i : Item). i.admin) found)) item_is in
+    subst (λ (pin : Option Version). IfSome pin (IsVersion sc item.admin)) (sym pin_is) (pin_sound sc c.txn c.gathered item.admin h.gathered)
+
 -- a query is asked in a turn at the server of its item, with a staple where each is proved
 query_sound : (sc : Scenario) (c : Coordinator) (turn number : ℕ) (staple : Option Staple) (server : ServerId) → IsValid sc → IsSoundCoordinator sc c → IsHome sc c number server
     → IfSome staple (IsSoundStaple sc) × (ProvesEach sc c.txn → is_some staple ≡ true) → IsSoundLetter sc (request c server (body.Query (query_request sc c turn server number staple)))
@@ -118,7 +147,7 @@ query_sound sc c turn number staple server valid h k t =
       has_value = has_value sc c number k.asked k.asked_is;
       stapled = t.1;
       staple = t.0;
-      pin = tt;
+      pin = query_pin sc c number k.asked at.kept.declared h k.asked_is at.kept.declared_is;
     } in
     request_sound sc c server _ h at.exists asks_of
 
@@ -164,27 +193,69 @@ coordinator_with_age_sound sc c place h =
 first_sound : (sc : Scenario) (txn : TxnId) (servers : List ServerId) → Each (IsServer sc) servers → Each (IsSoundTarget sc txn) (map new_target servers)
 first_sound sc txn servers h = each_map (IsServer sc) (IsSoundTarget sc txn) new_target (λ server exists. record { server = exists; reply = tt }) servers h
 
--- the levels of the first round: the master is read where one of them is global
-first_levels : (sc : Scenario) (c : Coordinator) (admin : AdminId) → is_global_at (commit_round sc c).levels admin ≡ true → (commit_round sc c).reads ≡ true
-first_levels sc c admin e = global_of_all (level_at sc c) admin e
+-- a first round, of servers that exist; the master is read where one of its levels is global
+round_of_sound : (sc : Scenario) (c : Coordinator) (servers : List ServerId) → Each (IsServer sc) servers → IsSoundRound sc c.txn (round_of sc c servers)
+round_of_sound sc c servers h = record { levels = λ admin e. global_of_all (level_at sc c) admin e; targets = first_sound sc c.txn servers h; aim = tt; named = tt; mets = tt }
 
 commit_round_sound : (sc : Scenario) (c : Coordinator) → IsSoundCoordinator sc c → IsSoundRound sc c.txn (commit_round sc c)
-commit_round_sound sc c h = record { levels = first_levels sc c; targets = first_sound sc c.txn c.servers h.servers; aim = tt; named = tt; mets = tt }
+commit_round_sound sc c h = round_of_sound sc c c.servers h.servers
+
+validation_round_sound : (sc : Scenario) (c : Coordinator) (number : ℕ) → IsSoundCoordinator sc c → IsSoundRound sc c.txn (validation_round sc c number)
+validation_round_sound sc c number h = round_of_sound sc c (servers_upto sc c number) (servers_upto_each sc c number (IsServer sc) h.servers)
 
 -- instances with the proof of a query, if it has one
 own_sound : (sc : Scenario) (txn : TxnId) (instances : List Instance) (proof : Option Verdict) → Each (IsSoundInstance sc txn) instances → IfSome proof (IsSoundProof sc txn) → Each (IsSoundInstance sc txn) (with_own instances proof)
 own_sound sc txn instances None h p = h
 own_sound sc txn instances (Some verdict) h p = each_more (IsSoundInstance sc txn) instances _ h (p, tt)
 
+all_sound : (sc : Scenario) (txn : TxnId) (reads : Bool) (instances : List Instance) (gathered : List Verdict) (proof : Option Verdict) → Each (IsSoundInstance sc txn) instances → Each (IsSoundProof sc txn) gathered
+    → IfSome proof (IsSoundProof sc txn) → Each (IsSoundInstance sc txn) (with_all reads instances gathered proof)
+all_sound sc txn reads instances gathered None h g p = h
+all_sound sc txn true instances gathered (Some verdict) h g p = h
+all_sound sc txn false instances gathered (Some verdict) h g p = each_more (IsSoundInstance sc txn) instances _ h (each_more (IsSoundProof sc txn) gathered verdict g p)
+
+-- or, as its scheme asks, with one of all that is gathered
+closed_sound : (sc : Scenario) (txn : TxnId) (chosen : Scheme) (reads : Bool) (instances : List Instance) (gathered : List Verdict) (proof : Option Verdict) → Each (IsSoundInstance sc txn) instances → Each (IsSoundProof sc txn) gathered
+    → IfSome proof (IsSoundProof sc txn) → Each (IsSoundInstance sc txn) (closed_by chosen reads instances gathered proof)
+closed_sound sc txn scheme.Incremental reads instances gathered proof h g p = all_sound sc txn reads instances gathered proof h g p
+closed_sound sc txn scheme.Deferred reads instances gathered proof h g p = own_sound sc txn instances proof h p
+closed_sound sc txn scheme.Punctual reads instances gathered proof h g p = own_sound sc txn instances proof h p
+closed_sound sc txn scheme.Continuous reads instances gathered proof h g p = own_sound sc txn instances proof h p
+
+gathered_more : (sc : Scenario) (txn : TxnId) (gathered : List Verdict) (proof : Option Verdict) → Each (IsSoundProof sc txn) gathered → IfSome proof (IsSoundProof sc txn) → Each (IsSoundProof sc txn) (with_gathered gathered proof)
+gathered_more sc txn gathered None g p = g
+gathered_more sc txn gathered (Some verdict) g p = each_more (IsSoundProof sc txn) gathered verdict g p
+
+-- what is gathered with the proof of a query
+gathered_sound : (sc : Scenario) (txn : TxnId) (chosen : Scheme) (gathered : List Verdict) (proof : Option Verdict) → Each (IsSoundProof sc txn) gathered → IfSome proof (IsSoundProof sc txn)
+    → Each (IsSoundProof sc txn) (gathered_by chosen gathered proof)
+gathered_sound sc txn scheme.Incremental gathered proof g p = gathered_more sc txn gathered proof g p
+gathered_sound sc txn scheme.Deferred gathered proof g p = g
+gathered_sound sc txn scheme.Punctual gathered proof g p = g
+gathered_sound sc txn scheme.Continuous gathered proof g p = g
+
 gains_deed_sound : (sc : Scenario) (c : Coordinator) (server : ServerId) (done : DoneReply) (asked : Query) (value : ℤ) (proof : Option Verdict) → IsSoundCoordinator sc c → query_in sc c.txn done.query ≡ Some asked
-    → IfSome proof (IsSoundProof sc c.txn) → IsSoundCoordinator sc (with_gained c (gains_deed c server done asked value proof))
+    → IfSome proof (IsSoundProof sc c.txn) → IsSoundCoordinator sc (with_gained c (gains_deed sc c server done asked value proof))
 gains_deed_sound sc c server done asked value proof h e p =
     record {
       exists = h.exists;
       servers = h.servers;
       deeds = each_more (IsSoundDeed sc c.txn) c.deeds (deed_of done.query asked value) h.deeds (record { asked = asked; asked_is = e; item_is = refl; action_is = refl });
+      gathered = gathered_sound sc c.txn (scheme_at sc c) c.gathered proof h.gathered p;
+      instances = closed_sound sc c.txn (scheme_at sc c) (is_global (level_at sc c)) c.instances c.gathered proof h.instances h.gathered p;
+      awaits = h.awaits;
+    }
+
+-- with an instance more
+gains_instance_sound : (sc : Scenario) (c : Coordinator) (reading : Option ℕ) (proofs : List Verdict) → IsSoundCoordinator sc c → Each (IsSoundProof sc c.txn) proofs
+    → IsSoundCoordinator sc (with_gained c (gains_instances c (instances_with c reading proofs)))
+gains_instance_sound sc c reading proofs h p =
+    record {
+      exists = h.exists;
+      servers = h.servers;
+      deeds = h.deeds;
       gathered = h.gathered;
-      instances = own_sound sc c.txn c.instances proof h.instances p;
+      instances = each_more (IsSoundInstance sc c.txn) c.instances (record { reading = reading; proofs = proofs }) h.instances p;
       awaits = h.awaits;
     }
 
@@ -196,23 +267,45 @@ want_sound : (sc : Scenario) (round : Round) (server : ServerId) (found : Option
 want_sound sc round server None e h = tt
 want_sound sc round server (Some named) e h = (each_found (IsSoundWanted sc) (λ (one : Wanted). same_server one.server server) round.named named h e).want
 
--- each awaited server is asked in a turn to prepare
-prepare_letters_sound : (sc : Scenario) (c : Coordinator) (turn : ℕ) (round : Round) (staple : Staple) → IsSoundCoordinator sc c → IsSoundRound sc c.txn round → IsSoundStaple sc staple
-    → Each (IsSoundLetter sc) (map (prepare_letter c turn round staple) (missing_in round.targets))
-prepare_letters_sound sc c turn round staple h r t =
-    each_map (IsServer sc) (IsSoundLetter sc) (prepare_letter c turn round staple)
-    (λ server exists. request_sound sc c server _ h exists
-    (record { txn = h.exists; goes_to = tt; staple = t; want = want_sound sc round server (find (λ (named : Wanted). same_server named.server server) round.named) refl r.named }))
+-- a server is asked in a turn to evaluate the queries so far, or to prepare
+round_letter_sound : (sc : Scenario) (c : Coordinator) (over : Span) (turn : ℕ) (round : Round) (staple : Staple) (server : ServerId) → IsSoundCoordinator sc c → IsSoundRound sc c.txn round → IsSoundStaple sc staple
+    → IsServer sc server → IsSoundLetter sc (round_letter c over turn round staple server)
+round_letter_sound sc c (span.Validate number) turn round staple server h r t exists =
+    request_sound sc c server _ h exists
+    (record { txn = h.exists; goes_to = tt; staple = t; want = want_sound sc round server (find (λ (named : Wanted). same_server named.server server) round.named) refl r.named })
+round_letter_sound sc c span.Commit turn round staple server h r t exists =
+    request_sound sc c server _ h exists
+    (record { txn = h.exists; goes_to = tt; staple = t; want = want_sound sc round server (find (λ (named : Wanted). same_server named.server server) round.named) refl r.named })
+
+-- so is each that is awaited
+round_letters_sound : (sc : Scenario) (c : Coordinator) (over : Span) (turn : ℕ) (round : Round) (staple : Staple) → IsSoundCoordinator sc c → IsSoundRound sc c.txn round → IsSoundStaple sc staple
+    → Each (IsSoundLetter sc) (round_letters c over turn round staple)
+round_letters_sound sc c over turn round staple h r t =
+    each_map (IsServer sc) (IsSoundLetter sc) (round_letter c over turn round staple) (λ server exists. round_letter_sound sc c over turn round staple server h r t exists)
     (missing_in round.targets) (each_missing (IsServer sc) round.targets (each_as (IsSoundTarget sc c.txn) (λ (target : Target). IsServer sc target.server) (λ target k. k.server) round.targets r.targets))
 
-prepares_sound : (sc : Scenario) (c : Coordinator) (round : Round) (staple : Staple) → IsSoundCoordinator sc c → IsSoundRound sc c.txn round → IsSoundStaple sc staple
-    → IsSoundCoordinatorEffect sc c (prepares c span.Commit round staple)
-prepares_sound sc c round staple h r t =
+checks_sound : (sc : Scenario) (c : Coordinator) (over : Span) (round : Round) (staple : Staple) → IsSoundCoordinator sc c → IsSoundSpan sc c.txn over → IsSoundRound sc c.txn round → IsSoundStaple sc staple
+    → IsSoundCoordinatorEffect sc c (checks c over round staple)
+checks_sound sc c over round staple h o r t =
     record {
       same_txn = refl;
-      state_is = moved_in_ids sc c (phase.Checking span.Commit round staple) (next_turn c) c.epochs h (tt, r, t);
+      state_is = moved_in_ids sc c (phase.Checking over round staple) (next_turn c) c.epochs h (o, r, t);
       forces = tt;
-      sends_only = prepare_letters_sound sc c (next_turn c) round staple h r t;
+      sends_only = round_letters_sound sc c over (next_turn c) round staple h r t;
+    }
+
+-- each of these servers is asked in a turn to prepare without an evaluation
+vote_letters_sound : (sc : Scenario) (c : Coordinator) (turn : ℕ) (servers : List ServerId) → IsSoundCoordinator sc c → Each (IsServer sc) servers → Each (IsSoundLetter sc) (vote_letters c turn servers)
+vote_letters_sound sc c turn servers h exist =
+    each_map (IsServer sc) (IsSoundLetter sc) (vote_letter c turn) (λ server exists. request_sound sc c server _ h exists (record { txn = h.exists; goes_to = tt; staple = tt; want = tt })) servers exist
+
+asks_votes_sound : (sc : Scenario) (c : Coordinator) → IsSoundCoordinator sc c → IsSoundCoordinatorEffect sc c (asks_votes c)
+asks_votes_sound sc c h =
+    record {
+      same_txn = refl;
+      state_is = moved_in_ids sc c (phase.Voting c.servers) (next_turn c) c.epochs h h.servers;
+      forces = tt;
+      sends_only = vote_letters_sound sc c (next_turn c) c.servers h h.servers;
     }
 
 -- ---- Vote
@@ -237,13 +330,12 @@ pub orders_sound : (sc : Scenario) (c : Coordinator) (ended : Outcome) (servers 
 orders_sound sc c ended servers h exist =
     each_map (IsServer sc) (IsSoundLetter sc) _ (λ server exists. request_sound sc c server _ h exists (record { txn = h.exists; goes_to = tt })) servers exist
 
-commits_sound : (sc : Scenario) (c : Coordinator) (instances : List Instance) (rounds : ℕ) → IsSoundCoordinator sc c → Each (IsSoundInstance sc c.txn) instances
-    → IsSoundCoordinatorEffect sc c (commits (with_gained c (gains_instances c instances)) rounds)
-commits_sound sc c instances rounds h closed =
+commits_sound : (sc : Scenario) (c : Coordinator) (rounds : ℕ) → IsSoundCoordinator sc c → IsSoundCoordinatorEffect sc c (commits c rounds)
+commits_sound sc c rounds h =
     record {
       same_txn = refl;
-      state_is = record { exists = h.exists; servers = h.servers; deeds = h.deeds; gathered = h.gathered; instances = closed; awaits = h.servers };
-      forces = record { txn_is = refl; rests_on = record { instances = closed; deeds = h.deeds } };
+      state_is = record { exists = h.exists; servers = h.servers; deeds = h.deeds; gathered = h.gathered; instances = h.instances; awaits = h.servers };
+      forces = record { txn_is = refl; rests_on = record { instances = h.instances; deeds = h.deeds } };
       sends_only = orders_sound sc c outcome.Commit c.servers h h.servers;
     }
 
@@ -280,14 +372,24 @@ replied_sound sc txn round server verdicts r exists v = record { levels = r.leve
 probe_sound : (sc : Scenario) (c : Coordinator) (turn : ℕ) → IsSoundCoordinator sc c → IsSoundLetter sc (probe_letter c turn)
 probe_sound sc c turn h = record { from_is_actor = h.exists; to_is_actor = tt; says = record { txn = h.exists; goes_to = refl }; refuses = tt }
 
-counted_sound : (sc : Scenario) (c : Coordinator) (round : Round) (staple : Staple) → IsSoundCoordinator sc c → IsSoundRound sc c.txn round → IsSoundStaple sc staple
-    → IsSoundCoordinatorEffect sc c (sends (record c { phase = phase.Checking span.Commit round staple }) [])
-counted_sound sc c round staple h r t =
-    record { same_txn = refl; state_is = moved_in_ids sc c (phase.Checking span.Commit round staple) c.turn c.epochs h (tt, r, t); forces = tt; sends_only = tt }
+stays_sound : (sc : Scenario) (c : Coordinator) (over : Span) (round : Round) (staple : Staple) → IsSoundCoordinator sc c → IsSoundSpan sc c.txn over → IsSoundRound sc c.txn round → IsSoundStaple sc staple
+    → IsSoundCoordinatorEffect sc c (stays c over round (Some staple))
+stays_sound sc c over round staple h o r t =
+    record { same_txn = refl; state_is = moved_in_ids sc c (phase.Checking over round staple) c.turn c.epochs h (o, r, t); forces = tt; sends_only = tt }
 
 probes_sound : (sc : Scenario) (c : Coordinator) (next : Phase) → IsSoundCoordinator sc c → IsSoundPhase sc c.txn next → IsSoundCoordinatorEffect sc c (probes c next)
 probes_sound sc c next h n =
     record { same_txn = refl; state_is = moved_in_ids sc c next (next_turn c) c.epochs h n; forces = tt; sends_only = (probe_sound sc c (next_turn c) h, tt) }
+
+-- after a query the proofs so far are read, or after the votes
+probing_sound : (sc : Scenario) (txn : TxnId) (at : Point) → is_probed at ≡ true → (is_ran at ≡ true → IsQuery sc txn (number_at at)) → IsSoundPhase sc txn (probing_at at)
+probing_sound sc txn (point.Ran number) probed query = query refl
+probing_sound sc txn point.Voted probed query = tt
+probing_sound sc txn (point.Begun number) probed query = absurd (cc)
+probing_sound sc txn (point.Stapled number) probed query = absurd (cc)
+probing_sound sc txn (point.Read number) probed query = absurd (cc)
+probing_sound sc txn (point.Validated number) probed query = absurd (cc)
+probing_sound sc txn point.VoteRead probed query = absurd (cc)
 
 -- ---- an update
 
@@ -387,22 +489,45 @@ acknowledged_sound sc c ended awaited server h a =
 
 -- ---- all mails
 
--- the verdicts of an awaited vote YES
-yes_sound : (sc : Scenario) (c : Coordinator) (mail : Mail) (reply : VoteReply) (round : Round) (staple : Staple) (server : ServerId) (verdicts : List Verdict)
-    → IsSoundBody sc (actor.Coordinator c.txn) mail.letter.body → IsYes c mail reply round staple server verdicts → AreSoundVerdicts sc c.txn verdicts
-yes_sound sc c mail reply round staple server verdicts m y =
+-- the verdicts of an awaited reply
+reply_sound : (sc : Scenario) (c : Coordinator) (mail : Mail) (over : Span) (round : Round) (staple : Staple) (server : ServerId) (verdicts : List Verdict)
+    → IsSoundBody sc (actor.Coordinator c.txn) mail.letter.body → IsReply c mail over round staple server verdicts → AreSoundVerdicts sc c.txn verdicts
+reply_sound sc c mail _ _ _ _ _ m (ByVote reply round staple server verdicts y) =
     let said = subst (IsSoundBody sc (actor.Coordinator c.txn)) y.said_is m in
     let ballot : IsSoundBallot sc c.txn reply.vote = subst (λ (txn : TxnId). IsSoundBallot sc txn reply.vote) (same_txn_from c.txn reply.txn said.goes_to) said.ballot in
     subst (IsSoundBallot sc c.txn) y.vote_is ballot
+reply_sound sc c mail _ _ _ _ _ m (ByVerdicts reply number round staple server verdicts y) =
+    let said = subst (IsSoundBody sc (actor.Coordinator c.txn)) y.said_is m in
+    let shown : IfSome reply.verdicts (AreSoundVerdicts sc c.txn) = subst (λ (txn : TxnId). IfSome reply.verdicts (AreSoundVerdicts sc txn)) (same_txn_from c.txn reply.txn said.goes_to) said.verdicts in
+    subst (λ (given : Option (List Verdict)). IfSome given (AreSoundVerdicts sc c.txn)) y.verdicts_are shown
 
 -- the reason of an awaited vote NO
-no_sound : (sc : Scenario) (c : Coordinator) (mail : Mail) (reply : VoteReply) (round : Round) (staple : Staple) (server : ServerId) (number : ℕ) (value : ℤ) → IsSoundRefusal sc mail.letter.from mail.letter.body
-    → IsSoundBody sc (actor.Coordinator c.txn) mail.letter.body → IsNo c mail reply round staple server (no.Range number value) → IsSoundCause sc c.txn (cause.No (refused_by server number value))
-no_sound sc c mail reply round staple server number value r m k =
+no_sound : (sc : Scenario) (c : Coordinator) (mail : Mail) (reply : VoteReply) (server : ServerId) (number : ℕ) (value : ℤ) → IsSoundRefusal sc mail.letter.from mail.letter.body
+    → IsSoundBody sc (actor.Coordinator c.txn) mail.letter.body → IsNo c mail reply server (no.Range number value) → IsSoundCause sc c.txn (cause.No (refused_by server number value))
+no_sound sc c mail reply server number value r m k =
     let said = subst (IsSoundBody sc (actor.Coordinator c.txn)) k.said_is m in
     let refusal : IsRefusalOf sc server reply.txn reply.vote = subst (λ (told : Body). IsSoundRefusal sc (actor.Server server) told) k.said_is (subst (λ (from : Actor). IsSoundRefusal sc from mail.letter.body) k.from_is r) in
     let own : IsRefusalOf sc server c.txn reply.vote = subst (λ (txn : TxnId). IsRefusalOf sc server txn reply.vote) (same_txn_from c.txn reply.txn said.goes_to) refusal in
     record { query = subst (IsRefusalOf sc server c.txn) k.vote_is own }
+
+-- a newer version was found at the master than that of a gathered proof
+older_sound : (sc : Scenario) (txn : TxnId) (gathered : List Verdict) (reading : Reading) (why : Cause) → Each (IsSoundProof sc txn) gathered → AreVersions sc reading.newest → older (replicate admins_limit level.Global) gathered reading ≡ Some why
+    → IsSoundCause sc txn why
+older_sound sc txn gathered reading why h read e =
+    let found = finds_the_first_below (replicate admins_limit level.Global) gathered reading why e in
+    let newer : Newer = found.0 in
+    let below = found.2 in
+    let proof : Verdict = below.proof in
+    let sound : IsSoundProof sc txn proof = each_get (IsSoundProof sc txn) gathered below.place proof h below.kept in
+    let used : IsVersion sc proof.admin proof.version = sound.sound.version in
+    let newest = version_of sc.admins reading.newest proof.admin.0 (record { 0 = 0 }) read (slice_get_within sc.admins proof.admin.0 used.declared used.declared_is) in
+    let there : IsVersion sc proof.admin (unwrap_or (slice_get reading.newest proof.admin.0) (record { 0 = 0 })) = record { declared = newest.0; declared_is = newest.1; in_library = newest.2 } in
+    let both : IsSoundNewer sc newer =
+    record {
+      used = subst (λ (admin : AdminId). IsVersion sc admin newer.used) (sym below.admin) (subst (IsVersion sc proof.admin) (sym below.used) used);
+      found = subst (λ (admin : AdminId). IsVersion sc admin newer.found) (sym below.admin) (subst (IsVersion sc proof.admin) (sym below.found) there);
+    } in
+    subst (IsSoundCause sc txn) (sym found.1) both
 
 -- an awaited answer
 given_sound : (sc : Scenario) (c : Coordinator) (mail : Mail) (done : DoneReply) (server : ServerId) (asked : Query) (given : Answer) → IsSoundBody sc (actor.Coordinator c.txn) mail.letter.body
@@ -419,6 +544,26 @@ died_sound sc c mail done server asked other valid m k =
     let at : IsServerOf sc asked server = server_found sc asked server (slice_get sc.items (item_of asked).0) valid refl k.server_is in
     record { query = record { asked = asked; asked_is = k.asked_is; kept = at.kept }; other = given_sound sc c mail done server asked (answer.Died other) m k }
 
+probing_query : (sc : Scenario) (txn : TxnId) (awaited : Phase) (at : Point) → IsProbing awaited at → is_of_query at ≡ true → IsSoundPhase sc txn awaited → IsQuery sc txn (number_at at)
+probing_query sc txn _ _ (AfterQuery number) e h = h
+probing_query sc txn _ _ AfterVotes e h = absurd (cc)
+
+spanned_query : (sc : Scenario) (txn : TxnId) (over : Span) → is_of_query (point_of over) ≡ true → IsSoundSpan sc txn over → IsQuery sc txn (number_at (point_of over))
+spanned_query sc txn (span.Validate number) e h = h
+spanned_query sc txn span.Commit e h = absurd (cc)
+
+-- what a round that is judged is over
+pub judged_span : (sc : Scenario) (c : Coordinator) (mail : Mail) (over : Span) (round : Round) (staple : Option Staple) (reading : Option Reading) → IsSoundCoordinator sc c → IsJudged c mail over round staple reading → IsSoundSpan sc c.txn over
+judged_span sc c mail _ _ _ _ h (ByReplies over round staple server verdicts y whole unread) = (subst (IsSoundPhase sc c.txn) (reply_checking c mail over round staple server verdicts y) h.awaits).0
+judged_span sc c mail _ _ _ _ h (ByReading reply over round k) = (subst (IsSoundPhase sc c.txn) k.reading h.awaits).0
+
+-- at a point after a query, there is such a query
+pub passed_query : (sc : Scenario) (c : Coordinator) (mail : Mail) (at : Point) (now : Gained) (rounds : ℕ) → IsSoundCoordinator sc c → IsPassed sc c mail at now rounds → is_of_query at ≡ true → IsQuery sc c.txn (number_at at)
+passed_query sc c mail _ _ _ h (QueryRan done server asked value proof k) e = record { asked = asked; asked_is = k.asked_is }
+passed_query sc c mail _ _ _ h (ProofsRead reply at k none) e = probing_query sc c.txn c.phase at k.probing e h.awaits
+passed_query sc c mail _ _ _ h (AllTrue over round staple reading k) e = spanned_query sc c.txn over e (judged_span sc c mail over round staple reading h k.is_judged)
+passed_query sc c mail _ _ _ h (AllVoted reply awaited server verdicts k left) e = absurd (cc)
+
 pub coordinator_row_sound : (sc : Scenario) (c : Coordinator) (mail : Mail) → IsValid sc → IsSoundCoordinator sc c → IsActor sc mail.letter.from
     → IsSoundRefusal sc mail.letter.from mail.letter.body → IsSoundBody sc (actor.Coordinator c.txn) mail.letter.body → IsSoundCoordinatorEffect sc c (coordinator_row sc c mail)
 coordinator_row_sound sc c mail valid h a r m =
@@ -426,24 +571,43 @@ coordinator_row_sound sc c mail valid h a r m =
     (record {
       ignored = ignores_sound_in_coordinator sc c h;
       stapled = λ tell query home k home_of_it. sends_query_sound sc c query (Some (staple_of tell mail.sent)) home valid h (home_is sc c query home home_of_it) (staple_sound tell k.said_is, λ each. refl);
-      sends_query = λ query now next passed moves home.
-          let further : IsHome sc c (next_number query) next = home_is sc c (next_number query) next home in
-          let on = sends_query_sound sc (with_gained c now) (next_number query) None next valid (ran_sound query now passed)
-          (record { asked = further.asked; asked_is = further.asked_is; server_is = further.server_is }) (tt, λ each. absurd (sent_unproved sc c (next_number query) (begun_after sc c query move.SendQuery refl moves) each)) in
+      sends_query = λ at now rounds next passed moves home.
+          let further : IsHome sc c (next_at at) next = home_is sc c (next_at at) next home in
+          let on = sends_query_sound sc (with_gained c now) (next_at at) None next valid (gained_sound at now rounds passed)
+          (record { asked = further.asked; asked_is = further.asked_is; server_is = further.server_is })
+          (tt, λ each. absurd (sent_unproved sc c (next_at at) (begun_after sc c at move.SendQuery (passed_past sc c mail at now rounds passed) refl moves) each)) in
           record { same_txn = refl; state_is = on.state_is; forces = tt; sends_only = on.sends_only };
-      asks_staple = λ query now passed moves.
-          let on = asks_in_sound sc (with_gained c now) (phase.Stapling (next_number query)) (ran_sound query now passed)
-          (query_begins sc c (next_number query) (next_low query) (begun_after sc c query move.Ask refl moves)) in
+      asks_staple = λ at now rounds passed moves.
+          let on = asks_in_sound sc (with_gained c now) (phase.Stapling (next_at at)) (gained_sound at now rounds passed)
+          (query_begins sc c (next_at at) (next_low (number_at at)) (begun_after sc c at move.Ask (passed_past sc c mail at now rounds passed) refl moves)) in
           record { same_txn = refl; state_is = on.state_is; forces = tt; sends_only = on.sends_only };
-      commit_rounds = λ query now passed moves.
-          let on = asks_in_sound sc (with_gained c now) (phase.Asking span.Commit (commit_round sc c)) (ran_sound query now passed) (tt, commit_round_sound sc c h) in
+      probes_proofs = λ at now rounds passed moves.
+          let on = probes_sound sc (with_gained c now) (probing_at at) (gained_sound at now rounds passed) (probing_sound sc c.txn at (probed_there sc c at moves) (ran_query at now rounds passed)) in
           record { same_txn = refl; state_is = on.state_is; forces = tt; sends_only = on.sends_only };
-      told = λ tell round k. prepares_sound sc c round (staple_of tell mail.sent) h (awaits k.asking).1 (staple_sound tell k.said_is);
-      counted = λ reply round staple server verdicts y. counted_sound sc c (after_reply round server verdicts) staple h (replied reply round staple server verdicts y) (awaits y.checking).2;
-      probed = λ reply round staple server verdicts y whole reads. probes_sound sc c (phase.Reading span.Commit (after_reply round server verdicts)) h (tt, replied reply round staple server verdicts y);
-      decides = λ instances rounds passed. commits_sound sc c instances rounds h (instances_sound instances rounds passed);
+      validates = λ at now rounds passed moves.
+          let on = asks_in_sound sc (with_gained c now) (phase.Asking (span.Validate (number_at at)) (validation_round sc c (number_at at))) (gained_sound at now rounds passed)
+          (ran_query at now rounds passed (validated_ran sc c at moves), validation_round_sound sc c (number_at at) h) in
+          record { same_txn = refl; state_is = on.state_is; forces = tt; sends_only = on.sends_only };
+      commit_rounds = λ at now rounds passed moves.
+          let on = asks_in_sound sc (with_gained c now) (phase.Asking span.Commit (commit_round sc c)) (gained_sound at now rounds passed) (tt, commit_round_sound sc c h) in
+          record { same_txn = refl; state_is = on.state_is; forces = tt; sends_only = on.sends_only };
+      asks_votes = λ at now rounds passed moves.
+          let on = asks_votes_sound sc (with_gained c now) (gained_sound at now rounds passed) in
+          record { same_txn = refl; state_is = on.state_is; forces = tt; sends_only = on.sends_only };
+      decides = λ at now rounds passed moves.
+          let on = commits_sound sc (with_gained c now) rounds (gained_sound at now rounds passed) in
+          record { same_txn = refl; state_is = on.state_is; forces = on.forces; sends_only = on.sends_only };
+      told = λ tell over round k. checks_sound sc c over round (staple_of tell mail.sent) h (awaits k.asking).0 (awaits k.asking).1 (staple_sound tell k.said_is);
+      counted = λ over round staple server verdicts y.
+          stays_sound sc c over (after_reply round server verdicts) staple h (over_sound over round staple server verdicts y) (replied over round staple server verdicts y) (awaits (reply_checking c mail over round staple server verdicts y)).2;
+      probed = λ over round staple server verdicts y whole reads.
+          probes_sound sc c (phase.Reading over (after_reply round server verdicts)) h (over_sound over round staple server verdicts y, replied over round staple server verdicts y);
       aborted = λ why ended. aborts_sound sc c why h (cause_sound why ended);
-      updated = λ round staple reading named j e. asks_in_sound sc c (phase.Asking span.Commit (after_judgement round reading)) h (tt, next_sound sc c.txn round reading named e (judged_sound round staple reading j));
+      updated = λ over round staple reading named j e.
+          let judged_one = judged_sound over round staple reading j in
+          asks_in_sound sc c (phase.Asking over (after_judgement round reading)) h (judged_one.0, next_sound sc c.txn round reading named e judged_one.1);
+      voted = λ reply awaited server verdicts k.
+          record { same_txn = refl; state_is = moved_in_ids sc c (phase.Voting (without awaited server)) c.turn c.epochs h (without_sound sc awaited server (awaits k.voting)); forces = tt; sends_only = tt };
       acknowledged = λ ack ended awaited server k. acknowledged_sound sc c ended awaited server h (awaits k.ending);
       inquired = λ inquiry ended awaited server k. record { same_txn = refl; state_is = h; forces = tt; sends_only = orders_sound sc c ended (server ∷ []) h (subst (IsActor sc) k.from_is a, tt) };
     })
@@ -457,34 +621,48 @@ coordinator_row_sound sc c mail valid h a r m =
     staple_sound : (tell : TellReply) → mail.letter.body ≡ body.Tell tell → IsSoundStaple sc (staple_of tell mail.sent)
     staple_sound tell e = (subst (IsSoundBody sc (actor.Coordinator c.txn)) e m).revoked
 
-    replied : (reply : VoteReply) (round : Round) (staple : Staple) (server : ServerId) (verdicts : List Verdict) → IsYes c mail reply round staple server verdicts → IsSoundRound sc c.txn (after_reply round server verdicts)
-    replied reply round staple server verdicts y =
-        replied_sound sc c.txn round server verdicts (awaits y.checking).1 (subst (IsActor sc) y.from_is a) (yes_sound sc c mail reply round staple server verdicts m y)
+    over_sound : (over : Span) (round : Round) (staple : Staple) (server : ServerId) (verdicts : List Verdict) → IsReply c mail over round staple server verdicts → IsSoundSpan sc c.txn over
+    over_sound over round staple server verdicts y = (awaits (reply_checking c mail over round staple server verdicts y)).0
 
-    judged_sound : (round : Round) (staple : Option Staple) (reading : Option Reading) → IsJudged c mail round staple reading → IsSoundJudged sc c.txn round reading
-    judged_sound _ _ _ (ByVotes reply round staple server verdicts y whole unread) =
-        let now = replied reply round staple server verdicts y in
-        record { round_is = now; newest = λ admin within global. absurd (let reads = now.levels admin global in cc) }
-    judged_sound _ _ _ (ByReading reply round k) =
-        let read : AreVersions sc reply.newest = (subst (IsSoundBody sc (actor.Coordinator c.txn)) k.said_is m).newest in
-        record { round_is = (awaits k.reading).1; newest = λ admin within global. read_version sc (reading_of reply mail.sent) admin read within }
+    replied : (over : Span) (round : Round) (staple : Staple) (server : ServerId) (verdicts : List Verdict) → IsReply c mail over round staple server verdicts → IsSoundRound sc c.txn (after_reply round server verdicts)
+    replied over round staple server verdicts y =
+        replied_sound sc c.txn round server verdicts (awaits (reply_checking c mail over round staple server verdicts y)).1 (subst (IsActor sc) (reply_from c mail over round staple server verdicts y) a)
+        (reply_sound sc c mail over round staple server verdicts m y)
 
-    ran_sound : (query : ℕ) (now : Gained) → IsPassed sc c mail (point.Ran query) now → IsSoundCoordinator sc (with_gained c now)
-    ran_sound _ _ (QueryRan done server asked value proof k) = gains_deed_sound sc c server done asked value proof h k.asked_is (given_sound sc c mail done server asked (answer.Ran value proof) m k)
+    read_versions : (reply : NewestReply) → mail.letter.body ≡ body.Newest reply → AreVersions sc reply.newest
+    read_versions reply e = (subst (IsSoundBody sc (actor.Coordinator c.txn)) e m).newest
 
-    instances_sound : (instances : List Instance) (rounds : ℕ) → HasVoted sc c mail point.Voted instances rounds → Each (IsSoundInstance sc c.txn) instances
-    instances_sound _ _ (AllTrue round staple reading k) =
-        each_more (IsSoundInstance sc c.txn) c.instances (record { reading = option_map place_of reading; proofs = by_query (proofs_in round.targets) }) h.instances
-        (proofs_sound sc c.txn round reading k.all_true (judged_sound round staple reading k.is_judged).round_is.targets)
+    judged_sound : (over : Span) (round : Round) (staple : Option Staple) (reading : Option Reading) → IsJudged c mail over round staple reading → IsSoundSpan sc c.txn over × IsSoundJudged sc c.txn round reading
+    judged_sound _ _ _ _ (ByReplies over round staple server verdicts y whole unread) =
+        let now = replied over round staple server verdicts y in
+        (over_sound over round staple server verdicts y, record { round_is = now; newest = λ admin within global. absurd (let reads = now.levels admin global in cc) })
+    judged_sound _ _ _ _ (ByReading reply over round k) =
+        let read : AreVersions sc reply.newest = read_versions reply k.said_is in
+        ((awaits k.reading).0, record { round_is = (awaits k.reading).1; newest = λ admin within global. read_version sc (reading_of reply mail.sent) admin read within })
+
+    gained_sound : (at : Point) (now : Gained) (rounds : ℕ) → IsPassed sc c mail at now rounds → IsSoundCoordinator sc (with_gained c now)
+    gained_sound _ _ _ (QueryRan done server asked value proof k) = gains_deed_sound sc c server done asked value proof h k.asked_is (given_sound sc c mail done server asked (answer.Ran value proof) m k)
+    gained_sound _ _ _ (ProofsRead reply at k none) = gains_instance_sound sc c (Some mail.sent) c.gathered h h.gathered
+    gained_sound _ _ _ (AllTrue over round staple reading k) =
+        gains_instance_sound sc c (option_map place_of reading) (by_query (proofs_in round.targets)) h (proofs_sound sc c.txn round reading k.all_true (judged_sound over round staple reading k.is_judged).1.round_is.targets)
+    gained_sound _ _ _ (AllVoted reply awaited server verdicts k left) =
+        record { exists = h.exists; servers = h.servers; deeds = h.deeds; gathered = h.gathered; instances = h.instances; awaits = h.awaits }
+
+    -- where a query ran, there is such a query
+    ran_query : (at : Point) (now : Gained) (rounds : ℕ) → IsPassed sc c mail at now rounds → is_ran at ≡ true → IsQuery sc c.txn (number_at at)
+    ran_query at now rounds passed ran = let there = ran_there sc c mail at now rounds passed ran in record { asked = there.0; asked_is = there.1 }
 
     cause_sound : (why : Cause) → IsEnded sc c mail why → IsSoundCause sc c.txn why
     cause_sound _ (ByOlder done server asked other k) = died_sound sc c mail done server asked other valid m k
     cause_sound _ (ByDenial done server asked verdict k) = let sound : IsSoundVerdict sc c.txn verdict = given_sound sc c mail done server asked (answer.Denied verdict) m k in record { query = sound.query; version = sound.version }
-    cause_sound _ (ByProof round staple reading verdict j e) = denied_sound sc c.txn round reading verdict e (judged_sound round staple reading j).round_is.targets
-    cause_sound _ (ByRounds reply round mets k e) = spent_sound sc c.txn round (Some (reading_of reply mail.sent)) mets e (judged_sound round None (Some (reading_of reply mail.sent)) (ByReading reply round k))
-    cause_sound _ (ByRefusal reply round staple server number value k) = no_sound sc c mail reply round staple server number value r m k
+    cause_sound _ (ByNewer done server asked newer k) = given_sound sc c mail done server asked (answer.Newer newer) m k
+    cause_sound _ (ByNewest reply at why k found) = older_sound sc c.txn c.gathered (reading_of reply mail.sent) why h.gathered (read_versions reply k.said_is) found
+    cause_sound _ (ByProof over round staple reading verdict j e) = denied_sound sc c.txn round reading verdict e (judged_sound over round staple reading j).1.round_is.targets
+    cause_sound _ (ByRounds reply over round mets k e) = spent_sound sc c.txn round (Some (reading_of reply mail.sent)) mets e (judged_sound over round None (Some (reading_of reply mail.sent)) (ByReading reply over round k)).1
+    cause_sound _ (ByRefusal reply server number value k) = no_sound sc c mail reply server number value r m k
     cause_sound _ (ByRestart done server asked k) = (server_found sc asked server (slice_get sc.items (item_of asked).0) valid refl k.server_is).exists
-    cause_sound _ (ByLoss reply round staple server k) = subst (IsActor sc) k.from_is a
+    cause_sound _ (ByLoss reply server k) = subst (IsActor sc) k.from_is a
+    cause_sound _ (ByLostVerdicts reply number round staple server k) = subst (IsActor sc) k.from_is a
 
 -- ---- timers
 
@@ -497,8 +675,10 @@ repeats_sound sc c valid h =
       stapled = λ number stapling. (ask_sound sc c c.turn h, tt);
       queried = λ number staple server querying home. (query_sound sc c c.turn number staple server valid h (home_is sc c number server home) ((awaits querying).1, (awaits querying).2), tt);
       asked = λ over round asking. (ask_sound sc c c.turn h, tt);
-      prepared = λ round staple checking. prepare_letters_sound sc c c.turn round staple h (awaits checking).1 (awaits checking).2;
+      prepared = λ over round staple checking. round_letters_sound sc c over c.turn round staple h (awaits checking).1 (awaits checking).2;
+      probed = λ at probing. (probe_sound sc c c.turn h, tt);
       read = λ over round reading. (probe_sound sc c c.turn h, tt);
+      voted = λ awaited voting. vote_letters_sound sc c c.turn awaited h (awaits voting);
       ordered = λ ended awaited ending. orders_sound sc c ended awaited h (awaits ending);
     })
   where

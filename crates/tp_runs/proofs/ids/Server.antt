@@ -1,6 +1,6 @@
 -- The server's row keeps its state sound, forces a sound record, and sends sound letters.
 use Rattle.std.specs.List.{list_all, list_any}
-use Rattle.std.proofs.Common.{Bool, IfSome, List, MatchOption, None, Option, Some, [], ap, arith, false, is_some, length, not, option_map, refl, slice_get, slice_set, subst, suc, sym, true, unwrap_or, zero, ℕ, ℤ, ⊎_elim, ◌<◌, ◌==◌, ◌||◌, ◌∙◌, ◌∷◌, ◌≡◌}
+use Rattle.std.proofs.Common.{Bool, IfSome, List, MatchOption, None, Option, Some, [], ap, arith, false, if◌then◌else◌, is_none, is_some, length, nat_lt, not, option_map, refl, slice_get, slice_set, subst, suc, sym, true, unwrap_or, zero, ℕ, ℤ, ⊎_elim, ◌<◌, ◌==◌, ◌||◌, ◌∙◌, ◌∷◌, ◌≡◌}
 use Rattle.std.proofs.lemmas.Bool.{and_parts, eqb-true}
 use Rattle.std.proofs.lemmas.Option.{same_Some, slice_get_within}
 use Rattle.tp_types.specs.Effect.{Effect, ignores, sends}
@@ -19,7 +19,7 @@ use Rattle.tp_model.specs.Words.actor
 use Rattle.tp_model.specs.Words.answer
 use Rattle.tp_model.specs.Words.body
 use Rattle.tp_model.specs.Words.no
-use Rattle.tp_model.specs.Words.{Admin, AdminId, Answer, Body, CredId, DecideRequest, Deed, DoneReply, Item, ItemId, Letter, Mail, No, PrepareRequest, PushNotice, Query, QueryRequest, Scenario, ServerId, Settled, Staple, Transaction, TxnId, Verdict, Version}
+use Rattle.tp_model.specs.Words.{Admin, AdminId, Answer, Body, CredId, DecideRequest, Deed, DoneReply, Item, ItemId, Letter, Mail, Newer, No, PrepareRequest, PushNotice, Query, QueryRequest, Scenario, ServerId, Settled, Staple, Transaction, TxnId, ValidateRequest, Verdict, Version}
 use Rattle.tp_types.proofs.EachLemmas.{each_append, each_found, each_get, each_map, each_more, placed_emptied, placed_set, some_if_not_none}
 use Rattle.tp_runs.proofs.basics.Locks.{all_added, released_locks, requested_locks, stands_in_the_way}
 use Rattle.tp_runs.proofs.basics.Stores.{ended_each, ended_known, kept_each, kept_known, learnt_each}
@@ -28,17 +28,17 @@ use Rattle.tp_runs.proofs.basics.Verdicts.{proved_at, unproved_at}
 use Rattle.tp_runs.proofs.basics.Versions.{used_by}
 use Rattle.tp_runs.proofs.ids.Valid.{IsValid, IsValidItem}
 use Rattle.tp_server.proofs.RightVerdicts.{uses_presented}
-use Rattle.tp_server.proofs.Rows.{AreRightWaits, IsAsking, IsDenied, IsFirstHere, IsFurther, IsResumed, IsRunning, denying, resuming, server_by_locks, unwaiting, with_locks}
+use Rattle.tp_server.proofs.Rows.{AreRightWaits, IsAsking, IsDenied, IsEvaluated, IsFirstHere, IsFurther, IsResumed, IsRunning, Stapled, Unstapled, refusing, resuming, server_by_locks, unwaiting, with_locks}
 use Rattle.tp_model.specs.Deeds.{deed_of}
-use Rattle.tp_runs.specs.Sound.{AreCreds, AreSoundVerdicts, AreVersions, AreVersionsOf, AreWanted, HasVerdict, HaveOwners, IsItemOf, IsQueryAt, IsQueryOf, IsReasonOf, IsSettledOf, IsSoundAnswer, IsSoundBody, IsSoundDeedAt, IsSoundDone, IsSoundEntry, IsSoundLetter, IsSoundNo, IsSoundProof, IsSoundQuery, IsSoundRefusal, IsSoundServer, IsSoundServerRecord, IsSoundSettled, IsSoundVerdict, IsSoundWait, IsVersion, IsVersionOf, IsWriteOf, ProvesEach}
+use Rattle.tp_runs.specs.Sound.{AreCreds, AreSoundVerdicts, AreVersions, AreVersionsOf, AreWanted, HasVerdict, HaveOwners, IsItemOf, IsQueryAt, IsQueryOf, IsReasonOf, IsSettledOf, IsSoundAnswer, IsSoundBody, IsSoundDeedAt, IsSoundDone, IsSoundEntry, IsSoundLetter, IsSoundNewer, IsSoundNo, IsSoundProof, IsSoundQuery, IsSoundRefusal, IsSoundServer, IsSoundServerRecord, IsSoundSettled, IsSoundVerdict, IsSoundWait, IsVersion, IsVersionOf, IsWriteOf, ProvesEach}
 use Rattle.tp_types.specs.Each.{Each}
 use Rattle.tp_machine.specs.Named.{IsAdmin, IsCred, IsTxn}
 use Rattle.tp_scheme.specs.Moves.{proves_each}
 use Rattle.tp_server.specs.declared.server.Ballot.{Ballot}
 use Rattle.tp_server.specs.declared.server.Entry.{Entry}
-use Rattle.tp_server.specs.Row.{ack_letter, after_asking, answers, answers_with, asked_query, closes, completes, entry_after, followed_by, learns, lock_answer, no_letter, ran_as, refused_as, reply, reply_of, server_row, settled_as, verdict_at, votes_on, waits, yes_letter}
+use Rattle.tp_server.specs.Row.{ack_letter, after_asking, answers, answers_with, asked_query, closes, completes, entry_after, followed_by, learns, lock_answer, newer_known, no_letter, pinned, ran_as, refused_as, reply, reply_of, server_row, settled_as, shows, shows_on, verdict_at, votes, waits, yes_letter}
 use Rattle.tp_server.specs.State.{Server}
-use Rattle.tp_server.specs.Verdicts.{admin_of, with_wants, verdict_on, verdicts_on, version_known, version_used, with_versions}
+use Rattle.tp_server.specs.Verdicts.{admin_of, known_with, verdict_on, verdicts_on, version_known, version_used, with_versions, with_wants}
 use Rattle.tp_store.proofs.OutsideLemmas.{first_is_least}
 use Rattle.tp_store.specs.Contents.{Contents}
 use Rattle.tp_store.specs.Laws.{IsLeastOutside}
@@ -191,6 +191,47 @@ deed_sound sc s q query value m query_is =
       kept = subst (IsItemOf sc s.server) item_is (subst (λ (at : ServerId). IsItemOf sc at (item_of m.asked)) at_is m.kept);
     }
 
+-- the administrator of its item
+admin_asked_is : (sc : Scenario) (s : Server) (q : QueryRequest) (query : Query) (m : IsSoundQuery sc (actor.Server s.server) q) → asked_query sc q ≡ Some query → admin_of sc (item_of query) ≡ m.kept.declared.admin
+admin_asked_is sc s q query m query_is =
+    let same : query ≡ m.asked = same_Some query m.asked (sym query_is ∙ m.asked_is) in
+    ap (λ (x : Query). admin_of sc (item_of x)) same ∙ ap (λ (found : Option Item). unwrap_or (option_map (λ (i : Item). i.admin) found) (record { 0 = 0 })) m.kept.declared_is
+
+-- the version that it pins, if any, is one of that administrator
+pin_there : (sc : Scenario) (s : Server) (q : QueryRequest) (query : Query) → IsSoundQuery sc (actor.Server s.server) q → asked_query sc q ≡ Some query → IfSome q.pin (IsVersion sc (admin_of sc (item_of query)))
+pin_there sc s q query m query_is = subst (λ (admin : AdminId). IfSome q.pin (IsVersion sc admin)) (sym (admin_asked_is sc s q query m query_is)) m.pin
+
+pin_known : (sc : Scenario) (store : Contents) (admin : AdminId) (pin : Option Version) → AreVersions sc store.known → IfSome pin (IsVersion sc admin) → AreVersions sc (known_with store admin pin)
+pin_known sc store admin None h p = h
+pin_known sc store admin (Some version) h p = known_more sc store admin version h p
+
+-- so the server that has learnt it is sound
+pub pinned_sound : (sc : Scenario) (s : Server) (q : QueryRequest) (query : Query) (value : ℤ) → IsSoundServer sc s → IsSoundQuery sc (actor.Server s.server) q → asked_query sc q ≡ Some query → IsSoundServer sc (pinned sc s q (deed_of q.query query value))
+pinned_sound sc s q query value h m query_is =
+    record {
+      exists = h.exists;
+      known = pin_known sc s.store (admin_of sc (item_of query)) q.pin h.known (pin_there sc s q query m query_is);
+      writes = h.writes;
+      settled = h.settled;
+      entries = h.entries;
+      locks = h.locks;
+    }
+
+-- what is left by it is left by the server before it learnt
+unpinned_sound : (sc : Scenario) (s : Server) (q : QueryRequest) (deed : Deed) (effect : Effect Server) → IsSoundServerEffect sc (pinned sc s q deed) effect → IsSoundServerEffect sc s effect
+unpinned_sound sc s q deed effect e = record { same_server = e.same_server; state_is = e.state_is; forces = e.forces; sends_only = e.sends_only }
+
+-- a newer version than the pinned one, which the server knows, exists, and so does the pinned one
+newer_sound : (sc : Scenario) (s : Server) (admin : AdminId) (pin : Option Version) (newer : Newer) → IsSoundServer sc s → IfSome pin (IsVersion sc admin) → newer_known s admin pin ≡ Some newer → IsSoundNewer sc newer
+newer_sound sc s admin None newer h p e = absurd (cc)
+newer_sound sc s admin (Some pin) newer h p e = by_test (nat_lt pin.0 (version_known s admin).0) e
+  where
+    by_test : (b : Bool) → (if b then Some (record { admin = admin; used = pin; found = version_known s admin }) else None) ≡ Some newer → IsSoundNewer sc newer
+    by_test true f =
+        subst (IsSoundNewer sc) (same_Some (record { admin = admin; used = pin; found = version_known s admin }) newer f)
+        (record { used = p; found = known_version sc s admin h (slice_get_within sc.admins admin.0 p.declared p.declared_is) })
+    by_test false f = absurd (cc)
+
 -- the verdict on it is sound
 verdict_at_sound : (sc : Scenario) (s : Server) (q : QueryRequest) (deed : Deed) (verdict : Verdict) → IsValid sc → IsSoundServer sc s → IsSoundDeedAt sc s.server q.txn deed → verdict_at sc s q deed ≡ Some verdict
     → IsSoundVerdict sc q.txn verdict
@@ -199,10 +240,11 @@ verdict_at_sound sc s q deed verdict valid h d e =
     subst (IsSoundVerdict sc q.txn) p.verdict_is (verdict_sound sc s q.txn p.txn p.staple [] deed valid h tt p.txn_is d)
 
 -- the proof of a query that runs is sound
-ran_proof_sound : (sc : Scenario) (s : Server) (q : QueryRequest) (deed : Deed) (proof : Option Verdict) → IsValid sc → IsSoundServer sc s → IsSoundDeedAt sc s.server q.txn deed → IsRunning sc s q deed proof → IfSome proof (IsSoundProof sc q.txn)
-ran_proof_sound sc s q deed None valid h d r = tt
-ran_proof_sound sc s q deed (Some verdict) valid h d r =
-    record { sound = verdict_at_sound sc s q deed verdict valid h d r.proof_is; has_rule = some_if_not_none verdict.rule (ap not r.holds) }
+ran_proof_sound : (sc : Scenario) (s : Server) (q : QueryRequest) (deed : Deed) (proof : Option Verdict) → IsValid sc → IsSoundServer sc s → IsSoundDeedAt sc s.server q.txn deed → verdict_at sc s q deed ≡ proof
+    → IfSome proof (λ (verdict : Verdict). is_none verdict.rule ≡ false) → IfSome proof (IsSoundProof sc q.txn)
+ran_proof_sound sc s q deed None valid h d e holds = tt
+ran_proof_sound sc s q deed (Some verdict) valid h d e holds =
+    record { sound = verdict_at_sound sc s q deed verdict valid h d e; has_rule = some_if_not_none verdict.rule (ap not holds) }
 
 -- a transaction that proves each query is one of the scenario's
 proving_there : (sc : Scenario) (txn : TxnId) → ProvesEach sc txn → (declared : Transaction) × (slice_get sc.txns txn.0 ≡ Some declared)
@@ -221,14 +263,16 @@ ran_proved sc s q deed None m e each =
     let stapled : is_some q.staple ≡ true = m.stapled each in
     absurd (let none : is_some q.staple ≡ false = ap (λ (staple : Option Staple). is_some staple) unstapled in cc)
 
-runs_sound : (sc : Scenario) (s : Server) (q : QueryRequest) (query : Query) (entry : Entry) (value : ℤ) (proof : Option Verdict) → IsValid sc → IsSoundServer sc s → IsSoundQuery sc (actor.Server s.server) q
-    → asked_query sc q ≡ Some query → IsSoundEntry sc s.server q.txn entry → IsRunning sc s q (deed_of q.query query value) proof → IsSoundServerEffect sc s (completes s q query entry (deed_of q.query query value) proof)
-runs_sound sc s q query entry value proof valid h m query_is old r =
+-- a query runs, with its proof if it has one, which is true
+proved_runs_sound : (sc : Scenario) (s : Server) (q : QueryRequest) (query : Query) (entry : Entry) (value : ℤ) (proof : Option Verdict) → IsValid sc → IsSoundServer sc s → IsSoundQuery sc (actor.Server s.server) q
+    → asked_query sc q ≡ Some query → IsSoundEntry sc s.server q.txn entry → verdict_at sc s q (deed_of q.query query value) ≡ proof → IfSome proof (λ (verdict : Verdict). is_none verdict.rule ≡ false)
+    → IsSoundServerEffect sc s (completes s q query entry (deed_of q.query query value) proof)
+proved_runs_sound sc s q query entry value proof valid h m query_is old e holds =
     let deed = deed_of q.query query value in
     let done : IsSoundDeedAt sc s.server q.txn deed = deed_sound sc s q query value m query_is in
     let at_is : m.at ≡ s.server = cc in
     let given : IsSoundDone sc (actor.Coordinator q.txn) (reply_of q entry.epoch (ran_as deed proof)) =
-    done_sound sc s q entry.epoch (ran_as deed proof) m (ran_proof_sound sc s q deed proof valid h done r) (λ each. ran_proved sc s q deed proof m r.proof_is each) in
+    done_sound sc s q entry.epoch (ran_as deed proof) m (ran_proof_sound sc s q deed proof valid h done e holds) (λ each. ran_proved sc s q deed proof m e each) in
     record {
       same_server = refl;
       state_is = record {
@@ -249,6 +293,15 @@ runs_sound sc s q query entry value proof valid h m query_is old r =
       forces = tt;
       sends_only = (reply_sound sc s q.txn (body.Done (reply_of q entry.epoch (ran_as deed proof))) h m.txn given tt, tt);
     }
+
+-- so it does at a server that has learnt what it pins
+runs_sound : (sc : Scenario) (s : Server) (q : QueryRequest) (query : Query) (entry : Entry) (value : ℤ) (proof : Option Verdict) → IsValid sc → IsSoundServer sc s → IsSoundQuery sc (actor.Server s.server) q
+    → asked_query sc q ≡ Some query → IsSoundEntry sc s.server q.txn entry → IsRunning sc s q (deed_of q.query query value) proof
+    → IsSoundServerEffect sc s (completes (pinned sc s q (deed_of q.query query value)) q query entry (deed_of q.query query value) proof)
+runs_sound sc s q query entry value proof valid h m query_is old r =
+    let deed = deed_of q.query query value in
+    unpinned_sound sc s q deed (completes (pinned sc s q deed) q query entry deed proof)
+    (proved_runs_sound sc (pinned sc s q deed) q query entry value proof valid (pinned_sound sc s q query value h m query_is) m query_is old r.proof_is r.holds)
 
 -- the entry of a query that waits
 waits_sound : (sc : Scenario) (s : Server) (q : QueryRequest) (entry : Entry) → IsSoundServer sc s → IsSoundQuery sc (actor.Server s.server) q → IsSoundEntry sc s.server q.txn entry → IsSoundServerEffect sc s (waits s q entry)
@@ -290,9 +343,19 @@ answers_with_sound sc s q entry given h m old sound proved =
 
 -- the proof of a query is false
 denies_sound : (sc : Scenario) (s : Server) (q : QueryRequest) (query : Query) (entry : Entry) (value : ℤ) (verdict : Verdict) → IsValid sc → IsSoundServer sc s → IsSoundQuery sc (actor.Server s.server) q
-    → asked_query sc q ≡ Some query → IsSoundEntry sc s.server q.txn entry → IsDenied sc s q (deed_of q.query query value) verdict → IsSoundServerEffect sc s (answers_with s q entry (answer.Denied verdict))
+    → asked_query sc q ≡ Some query → IsSoundEntry sc s.server q.txn entry → IsDenied sc s q (deed_of q.query query value) verdict
+    → IsSoundServerEffect sc s (answers_with (pinned sc s q (deed_of q.query query value)) q entry (answer.Denied verdict))
 denies_sound sc s q query entry value verdict valid h m query_is old d =
-    answers_with_sound sc s q entry (answer.Denied verdict) h m old (verdict_at_sound sc s q (deed_of q.query query value) verdict valid h (deed_sound sc s q query value m query_is) d.proof_is) (λ each. tt)
+    let deed = deed_of q.query query value in
+    let after : IsSoundServer sc (pinned sc s q deed) = pinned_sound sc s q query value h m query_is in
+    unpinned_sound sc s q deed (answers_with (pinned sc s q deed) q entry (answer.Denied verdict))
+    (answers_with_sound sc (pinned sc s q deed) q entry (answer.Denied verdict) after m old (verdict_at_sound sc (pinned sc s q deed) q deed verdict valid after (deed_sound sc s q query value m query_is) d.proof_is) (λ each. tt))
+
+-- the server knows a newer version than it pins
+outdates_sound : (sc : Scenario) (s : Server) (q : QueryRequest) (query : Query) (entry : Entry) (newer : Newer) → IsSoundServer sc s → IsSoundQuery sc (actor.Server s.server) q
+    → asked_query sc q ≡ Some query → IsSoundEntry sc s.server q.txn entry → newer_known s (admin_of sc (item_of query)) q.pin ≡ Some newer → IsSoundServerEffect sc s (answers_with s q entry (answer.Newer newer))
+outdates_sound sc s q query entry newer h m query_is old known =
+    answers_with_sound sc s q entry (answer.Newer newer) h m old (newer_sound sc s (admin_of sc (item_of query)) q.pin newer h (pin_there sc s q query m query_is) known) (λ each. tt)
 
 -- the same with other locks, which all have owners
 relocked_sound : (sc : Scenario) (s : Server) (effect : Effect Server) (locks : Table) → HaveOwners sc locks → IsSoundServerEffect sc s effect → IsSoundServerEffect sc s (with_locks effect locks)
@@ -331,17 +394,27 @@ followed_sound sc s effect further h k =
 
 -- what waited runs
 resumes_sound : (sc : Scenario) (s : Server) (effect : Effect Server) (grant : Grant) (q : QueryRequest) (query : Query) (entry : Entry) (value : ℤ) (proof : Option Verdict) → IsValid sc → IsResumed sc s.server effect.state grant q query entry value
-    → IsRunning sc effect.state q (deed_of q.query query value) proof → IsSoundServerEffect sc s effect → IsSoundServerEffect sc s (followed_by effect (resuming effect.state q query entry value proof))
+    → IsRunning sc effect.state q (deed_of q.query query value) proof → IsSoundServerEffect sc s effect
+    → IsSoundServerEffect sc s (followed_by effect (resuming (pinned sc effect.state q (deed_of q.query query value)) q query entry value proof))
 resumes_sound sc s effect grant q query entry value proof valid k r h =
     let waited = resumed_sound sc s effect grant q query entry value k h in
-    followed_sound sc s effect (resuming effect.state q query entry value proof) h (runs_sound sc effect.state q query (unwaiting entry) value proof valid h.state_is waited.asked k.asked_is waited.old r)
+    followed_sound sc s effect (resuming (pinned sc effect.state q (deed_of q.query query value)) q query entry value proof) h (runs_sound sc effect.state q query (unwaiting entry) value proof valid h.state_is waited.asked k.asked_is waited.old r)
 
 -- the proof of what waited is false
 resumed_denied_sound : (sc : Scenario) (s : Server) (effect : Effect Server) (grant : Grant) (q : QueryRequest) (query : Query) (entry : Entry) (value : ℤ) (verdict : Verdict) → IsValid sc → IsResumed sc s.server effect.state grant q query entry value
-    → IsDenied sc effect.state q (deed_of q.query query value) verdict → IsSoundServerEffect sc s effect → IsSoundServerEffect sc s (followed_by effect (denying effect.state q entry verdict))
+    → IsDenied sc effect.state q (deed_of q.query query value) verdict → IsSoundServerEffect sc s effect
+    → IsSoundServerEffect sc s (followed_by effect (refusing (pinned sc effect.state q (deed_of q.query query value)) q entry (answer.Denied verdict)))
 resumed_denied_sound sc s effect grant q query entry value verdict valid k d h =
     let waited = resumed_sound sc s effect grant q query entry value k h in
-    followed_sound sc s effect (denying effect.state q entry verdict) h (denies_sound sc effect.state q query (unwaiting entry) value verdict valid h.state_is waited.asked k.asked_is waited.old d)
+    followed_sound sc s effect (refusing (pinned sc effect.state q (deed_of q.query query value)) q entry (answer.Denied verdict)) h
+    (denies_sound sc effect.state q query (unwaiting entry) value verdict valid h.state_is waited.asked k.asked_is waited.old d)
+
+-- its server knows a newer version than it pins
+resumed_outdated_sound : (sc : Scenario) (s : Server) (effect : Effect Server) (grant : Grant) (q : QueryRequest) (query : Query) (entry : Entry) (value : ℤ) (newer : Newer) → IsResumed sc s.server effect.state grant q query entry value
+    → newer_known effect.state (admin_of sc (item_of query)) q.pin ≡ Some newer → IsSoundServerEffect sc s effect → IsSoundServerEffect sc s (followed_by effect (refusing effect.state q entry (answer.Newer newer)))
+resumed_outdated_sound sc s effect grant q query entry value newer k known h =
+    let waited = resumed_sound sc s effect grant q query entry value k h in
+    followed_sound sc s effect (refusing effect.state q entry (answer.Newer newer)) h (outdates_sound sc effect.state q query (unwaiting entry) newer h.state_is waited.asked k.asked_is waited.old known)
 
 -- an answer that is given again, or for the first time
 answers_sound : (sc : Scenario) (s : Server) (q : QueryRequest) (given : DoneReply) → IsSoundServer sc s → IsTxn sc q.txn → IsSoundDone sc (actor.Coordinator q.txn) given
@@ -350,13 +423,23 @@ answers_sound sc s q given h exists d = record { same_server = refl; state_is = 
 
 -- ---- Prepare
 
-casts_sound : (sc : Scenario) (s : Server) (p : PrepareRequest) (txn : Transaction) (staple : Staple) (entry : Entry) → IsValid sc → IsSoundServer sc s → IsTxn sc p.txn → AreWanted sc p.want
-    → slice_get sc.txns p.txn.0 ≡ Some txn → IsSoundEntry sc s.server p.txn entry → IsSoundServerEffect sc s (votes_on sc (with_wants s p.want) p entry staple txn)
-casts_sound sc s p txn staple entry valid h exists w there k =
-    let now = with_wants s p.want in
-    let after : IsSoundServer sc now = learnt_sound sc s p.want h w in
-    let verdicts : AreSoundVerdicts sc p.txn (verdicts_on sc now txn staple p.want entry.deeds) =
-    each_map (IsSoundDeedAt sc s.server p.txn) (IsSoundVerdict sc p.txn) (verdict_on sc now txn staple p.want) (λ deed d. verdict_sound sc now p.txn txn staple p.want deed valid after w there d) entry.deeds k.deeds in
+-- verdicts on what a transaction of the scenario did here, at versions that are wanted or known
+verdicts_sound : (sc : Scenario) (s : Server) (txn : TxnId) (presenting : Transaction) (staple : Staple) (want : List (AdminId × Version)) (deeds : List Deed) → IsValid sc → IsSoundServer sc s → AreWanted sc want
+    → slice_get sc.txns txn.0 ≡ Some presenting → Each (IsSoundDeedAt sc s.server txn) deeds → AreSoundVerdicts sc txn (verdicts_on sc s presenting staple want deeds)
+verdicts_sound sc s txn presenting staple want deeds valid h w there k =
+    each_map (IsSoundDeedAt sc s.server txn) (IsSoundVerdict sc txn) (verdict_on sc s presenting staple want) (λ deed d. verdict_sound sc s txn presenting staple want deed valid h w there d) deeds k
+
+-- those of a vote
+evaluated_sound : (sc : Scenario) (s : Server) (p : PrepareRequest) (entry : Entry) (verdicts : List Verdict) → IsValid sc → IsSoundServer sc s → AreWanted sc p.want → Each (IsSoundDeedAt sc s.server p.txn) entry.deeds
+    → IsEvaluated sc s p entry verdicts → AreSoundVerdicts sc p.txn verdicts
+evaluated_sound sc s p entry _ valid h w k (Stapled staple txn given there) =
+    verdicts_sound sc (with_wants s p.want) p.txn txn staple p.want entry.deeds valid (learnt_sound sc s p.want h w) w there k
+evaluated_sound sc s p entry _ valid h w k (Unstapled given) = tt
+
+casts_sound : (sc : Scenario) (s : Server) (p : PrepareRequest) (entry : Entry) (verdicts : List Verdict) → IsSoundServer sc s → IsTxn sc p.txn → AreWanted sc p.want
+    → IsSoundEntry sc s.server p.txn entry → AreSoundVerdicts sc p.txn verdicts → IsSoundServerEffect sc s (votes (with_wants s p.want) p verdicts entry)
+casts_sound sc s p entry verdicts h exists w k sound =
+    let after : IsSoundServer sc (with_wants s p.want) = learnt_sound sc s p.want h w in
     record {
       same_server = refl;
       state_is = record {
@@ -365,11 +448,11 @@ casts_sound sc s p txn staple entry valid h exists w there k =
         writes = after.writes;
         settled = h.settled;
         entries = placed_set (λ (n : ℕ) (found : Entry). IsSoundEntry sc s.server (record { 0 = n }) found) s.entries p.txn.0 _ h.entries
-            (record { answers = k.answers; waiting = k.waiting; deeds = k.deeds; ballot = verdicts });
+            (record { answers = k.answers; waiting = k.waiting; deeds = k.deeds; ballot = sound });
         locks = h.locks;
       };
-      forces = record { txn = exists; deeds = k.deeds; verdicts = verdicts; told = after.known };
-      sends_only = (reply_sound sc s p.txn _ h exists (record { txn = exists; goes_to = refl; ballot = verdicts }) tt, tt);
+      forces = record { txn = exists; deeds = k.deeds; verdicts = sound; told = after.known };
+      sends_only = (reply_sound sc s p.txn _ h exists (record { txn = exists; goes_to = refl; ballot = sound }) tt, tt);
     }
 
 -- a vote that is given again
@@ -378,6 +461,22 @@ votes_again_sound : (sc : Scenario) (s : Server) (p : PrepareRequest) (entry : E
 votes_again_sound sc s p entry cast h exists k ballot_is =
     let verdicts : AreSoundVerdicts sc p.txn cast.verdicts = subst (λ (ballot : Option Ballot). IfSome ballot (λ (b : Ballot). AreSoundVerdicts sc p.txn b.verdicts)) ballot_is k.ballot in
     record { same_server = refl; state_is = h; forces = tt; sends_only = (reply_sound sc s p.txn _ h exists (record { txn = exists; goes_to = refl; ballot = verdicts }) tt, tt) }
+
+-- ---- Validate
+
+-- verdicts that are shown, or none where what was done here was lost
+shows_sound : (sc : Scenario) (s : Server) (v : ValidateRequest) (verdicts : Option (List Verdict)) → IsSoundServer sc s → IsTxn sc v.txn → IfSome verdicts (AreSoundVerdicts sc v.txn) → IsSoundServerEffect sc s (shows s v verdicts)
+shows_sound sc s v verdicts h exists sound =
+    record { same_server = refl; state_is = h; forces = tt; sends_only = (reply_sound sc s v.txn _ h exists (record { txn = exists; goes_to = refl; verdicts = sound }) tt, tt) }
+
+-- so once the wanted versions were learnt
+validates_sound : (sc : Scenario) (s : Server) (v : ValidateRequest) (txn : Transaction) (entry : Entry) → IsValid sc → IsSoundServer sc s → IsTxn sc v.txn → AreWanted sc v.want
+    → slice_get sc.txns v.txn.0 ≡ Some txn → IsSoundEntry sc s.server v.txn entry → IsSoundServerEffect sc s (shows_on sc (with_wants s v.want) v entry txn)
+validates_sound sc s v txn entry valid h exists w there k =
+    let now = with_wants s v.want in
+    let after : IsSoundServer sc now = learnt_sound sc s v.want h w in
+    let shown = shows_sound sc now v (Some (verdicts_on sc now txn v.staple v.want entry.deeds)) after exists (verdicts_sound sc now v.txn txn v.staple v.want entry.deeds valid after w there k.deeds) in
+    record { same_server = shown.same_server; state_is = shown.state_is; forces = shown.forces; sends_only = shown.sends_only }
 
 -- ---- Decide
 
@@ -447,11 +546,14 @@ server_row_sound sc s mail valid rightly h m =
     (record {
       ignored = ignores_sound_in_server sc s h;
       ran = λ q query entry value proof k granted r.
-          relocked_sound sc s (completes s q query entry (deed_of q.query query value) proof) (after_asking s q query entry).locks (asked_owners sc s q query entry asked.Granted granted h (said k.said_is).txn)
+          relocked_sound sc s (completes (pinned sc s q (deed_of q.query query value)) q query entry (deed_of q.query query value) proof) (after_asking s q query entry).locks (asked_owners sc s q query entry asked.Granted granted h (said k.said_is).txn)
           (runs_sound sc s q query entry value proof valid h (said k.said_is) k.asked_is (run_entry_in_ids sc s mail q query entry value h k) r);
       denied = λ q query entry value verdict k granted d.
-          relocked_sound sc s (answers_with s q entry (answer.Denied verdict)) (after_asking s q query entry).locks (asked_owners sc s q query entry asked.Granted granted h (said k.said_is).txn)
+          relocked_sound sc s (answers_with (pinned sc s q (deed_of q.query query value)) q entry (answer.Denied verdict)) (after_asking s q query entry).locks (asked_owners sc s q query entry asked.Granted granted h (said k.said_is).txn)
           (denies_sound sc s q query entry value verdict valid h (said k.said_is) k.asked_is (run_entry_in_ids sc s mail q query entry value h k) d);
+      outdated = λ q query entry value newer k granted known.
+          relocked_sound sc s (answers_with s q entry (answer.Newer newer)) (after_asking s q query entry).locks (asked_owners sc s q query entry asked.Granted granted h (said k.said_is).txn)
+          (outdates_sound sc s q query entry newer h (said k.said_is) k.asked_is (run_entry_in_ids sc s mail q query entry value h k) known);
       waited = λ q query entry value k waiting.
           relocked_sound sc s (waits s q entry) (after_asking s q query entry).locks (asked_owners sc s q query entry asked.Waits waiting h (said k.said_is).txn)
           (waits_sound sc s q entry h (said k.said_is) (run_entry_in_ids sc s mail q query entry value h k));
@@ -463,7 +565,11 @@ server_row_sound sc s mail valid rightly h m =
       answered = λ q entry given k.
           answers_sound sc s q given h (said k.said_is).txn
           (each_found (IsSoundDone sc (actor.Coordinator q.txn)) (λ (d : DoneReply). d.query == q.query) entry.answers given (h.entries q.txn.0 entry k.found).answers k.given_is);
-      voted = λ p entry staple txn k. casts_sound sc s p txn staple entry valid h (said k.said_is).txn (said k.said_is).want k.declared (h.entries p.txn.0 entry k.found);
+      voted = λ p entry verdicts k.
+          let kept = h.entries p.txn.0 entry k.found in
+          casts_sound sc s p entry verdicts h (said k.said_is).txn (said k.said_is).want kept (evaluated_sound sc s p entry verdicts valid h (said k.said_is).want kept.deeds k.evaluated);
+      shown = λ v entry txn k. validates_sound sc s v txn entry valid h (said k.said_is).txn (said k.said_is).want k.declared (h.entries v.txn.0 entry k.found);
+      lost_verdicts = λ v k. shows_sound sc s v None h (said k.said_is).txn tt;
       voted_again = λ p entry cast k. votes_again_sound sc s p entry cast h (said k.said_is).txn (h.entries p.txn.0 entry k.found) k.ballot_is;
       refused = λ p entry number value k.
           let exists = (said k.said_is).txn in
@@ -487,11 +593,14 @@ server_row_sound sc s mail valid rightly h m =
       pushed = λ push k. learns_sound sc s push h (said k.said_is).version;
       passed = λ effect grant first nobody k. relocked_sound sc s effect (without_grant effect.state.locks) k.state_is.locks k;
       resumed = λ effect grant q query entry value proof k r now.
-          relocked_sound sc s (followed_by effect (resuming effect.state q query entry value proof)) (without_grant effect.state.locks) now.state_is.locks
+          relocked_sound sc s (followed_by effect (resuming (pinned sc effect.state q (deed_of q.query query value)) q query entry value proof)) (without_grant effect.state.locks) now.state_is.locks
           (resumes_sound sc s effect grant q query entry value proof valid k r now);
       resumed_denied = λ effect grant q query entry value verdict k d now.
-          relocked_sound sc s (followed_by effect (denying effect.state q entry verdict)) (without_grant effect.state.locks) now.state_is.locks
+          relocked_sound sc s (followed_by effect (refusing (pinned sc effect.state q (deed_of q.query query value)) q entry (answer.Denied verdict))) (without_grant effect.state.locks) now.state_is.locks
           (resumed_denied_sound sc s effect grant q query entry value verdict valid k d now);
+      resumed_outdated = λ effect grant q query entry value newer k known now.
+          relocked_sound sc s (followed_by effect (refusing effect.state q entry (answer.Newer newer))) (without_grant effect.state.locks) now.state_is.locks
+          (resumed_outdated_sound sc s effect grant q query entry value newer k known now);
     })
   where
     said : {body : Body} → mail.letter.body ≡ body → IsSoundBody sc (actor.Server s.server) body

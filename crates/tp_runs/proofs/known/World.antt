@@ -38,7 +38,7 @@ use Rattle.tp_runs.proofs.pairs.Site.{Site}
 use Rattle.tp_runs.proofs.basics.Folds.{set_elsewhere}
 use Rattle.tp_runs.proofs.trust.Coordinator.{CoordinatorFits, turn_low}
 use Rattle.tp_runs.proofs.trust.Phases.{PhaseFits}
-use Rattle.tp_runs.proofs.trust.Rounds.{few_rounds, round_names}
+use Rattle.tp_runs.proofs.trust.Rounds.{few_rounds, span_names}
 use Rattle.tp_runs.proofs.basics.Turns.{AreFew, few_queries, low_query, low_round, low_validation, query_count}
 use Rattle.tp_runs.proofs.trust.World.{Trusts}
 use Rattle.tp_runs.proofs.walks.Steps.{Cases, IsCoordinatorUp, IsServerUp, KeepsUp, WaitRightly, WasSent, machine_after_by}
@@ -184,7 +184,7 @@ request_pairs : (sc : Scenario) (w : State) (from : Actor) (at : ServerId) (said
     → OrderDecided (λ txn. asker_at w.actors.coordinators txn.0 at.0) said → RequestPairs sc at (λ txn. asker_at w.actors.coordinators txn.0 at.0) P said
 request_pairs sc w from at (body.Query q) P same h d = λ declared e. subst (λ (p : Pair). QueryFits (site_of sc at.0 declared) p q) (same q.txn) (h declared e)
 request_pairs sc w from at (body.Prepare r) P same h d = λ declared e. subst (λ (p : Pair). PrepareFits (site_of sc at.0 declared) p r) (same r.txn) (h declared e)
-request_pairs sc w from at (body.Validate v) P same h d = λ declared e. subst (λ (p : Pair). ValidateFits p v) (same v.txn) (h declared e)
+request_pairs sc w from at (body.Validate v) P same h d = λ declared e. subst (λ (p : Pair). ValidateFits (site_of sc at.0 declared) p v) (same v.txn) (h declared e)
 request_pairs sc w from at (body.Decide order) P same h d = d
 request_pairs sc w from at _ P same h d = tt
 
@@ -252,7 +252,7 @@ receipt_by_server_in_known sc w rightly sound a epochs h n mail at part s sent u
 
 -- ---- a coordinator acts
 
-asker_of_up : (w : State) (txn : TxnId) (part : Part Coordinator) (c : Coordinator) (at : ℕ) → IsCoordinatorUp w txn part c → asker_at w.actors.coordinators txn.0 at ≡ asker_up at c
+pub asker_of_up : (w : State) (txn : TxnId) (part : Part Coordinator) (c : Coordinator) (at : ℕ) → IsCoordinatorUp w txn part c → asker_at w.actors.coordinators txn.0 at ≡ asker_up at c
 asker_of_up w txn part c at up = ap (option_and_then (asker_by at)) up.found ∙ ap (option_and_then (asker_up at)) up.up
 
 coordinator_next : (sc : Scenario) (w : State) (txn : TxnId) (part : Part Coordinator) (now : Option Coordinator) (kept : List Record) (other : TxnId) (at : ℕ) (declared : Transaction) (b : Bool) → same_txn txn other ≡ b → Pairs sc w
@@ -293,8 +293,11 @@ ask_pairs sc declared txn P Q from to (body.Prepare r) exists same h = prepare_t
     prepare_to _ k = tt
 ask_pairs sc declared txn P Q from to (body.Validate v) exists same h = validate_to to h
   where
-    validate_to : (to : Actor) → ValidateTo txn Q to v → ValidateAt sc P to v
-    validate_to (actor.Server at) k = λ other e. subst (λ (t : TxnId). ValidateFits (P t at.0) v) (sym k.0) (subst (λ (p : Pair). ValidateFits p v) (sym (same at.0)) k.1)
+    validate_to : (to : Actor) → ValidateTo sc declared txn Q to v → ValidateAt sc P to v
+    validate_to (actor.Server at) k = λ other e.
+        let is : declared ≡ other = same_Some declared other (sym exists ∙ (ap (λ (t : TxnId). slice_get sc.txns t.0) (sym k.0) ∙ e)) in
+        subst (λ (d : Transaction). ValidateFits (site_of sc at.0 d) (P v.txn at.0) v) is
+        (subst (λ (t : TxnId). ValidateFits (site_of sc at.0 declared) (P t at.0) v) (sym k.0) (subst (λ (p : Pair). ValidateFits (site_of sc at.0 declared) p v) (sym (same at.0)) k.1))
     validate_to _ k = tt
 ask_pairs sc declared txn P Q from to (body.Done done) exists same h = absurd h
 ask_pairs sc declared txn P Q from to (body.Vote reply) exists same h = absurd h
@@ -413,13 +416,14 @@ asked_within sc declared P c awaited e declared_is numbered fits is = by_phase a
     by_phase _ f n = tt
 
 phase_names : (sc : Scenario) (facts : List Fact) (place : ℕ) (txn : TxnId) (awaited : Phase) (declared : Transaction) → slice_get sc.txns txn.0 ≡ Some declared → PhaseFits sc facts place txn awaited → PhaseNames sc declared awaited
-phase_names sc facts place txn (phase.Asking span.Commit round) declared e h = round_names sc facts place txn round declared e h.1
-phase_names sc facts place txn (phase.Checking span.Commit round staple) declared e h = round_names sc facts place txn round declared e h.1
+phase_names sc facts place txn (phase.Asking over round) declared e h = span_names sc facts place txn over round declared e h.1
+phase_names sc facts place txn (phase.Checking over round staple) declared e h = span_names sc facts place txn over round declared e h.1
 phase_names sc facts place txn _ declared e h = tt
 
-coordinator_paired : (sc : Scenario) (w : State) (declared : Transaction) (txn : TxnId) (part : Part Coordinator) (c : Coordinator) → AreFew sc → IsSound sc w → Epochs sc w → Trusts sc w → Pairs sc w → IsCoordinatorUp w txn part c
+coordinator_paired : (sc : Scenario) (w : State) (declared : Transaction) (txn : TxnId) (part : Part Coordinator) (c : Coordinator) → AreFew sc → IsSound sc w → Agrees sc w → Epochs sc w → Trusts sc w → Pairs sc w → IsCoordinatorUp w txn part c
     → slice_get sc.txns txn.0 ≡ Some declared → CoordinatorPaired sc declared (pair_at w.actors txn) c
-coordinator_paired sc w declared txn part c few sound epochs trusts h up exists =
+coordinator_paired sc w declared txn part c few sound a epochs trusts h up exists =
+    let agrees : CoordinatorUpAgrees sc w.actors.servers txn part.log c = of_some (CoordinatorUpAgrees sc w.actors.servers txn part.log) part.up c up.up (a.coordinators txn.0 part up.found).state in
     let same : c.txn ≡ txn = own_txn sc w txn part c sound up.found up.up in
     let numbered : IsNumbered c = of_some IsNumbered part.up c up.up (h.numbered txn.0 part up.found) in
     let keeps : CoordinatorKeeps sc (epoch_at w.actors.servers) (asked_in w.mails txn) c = of_some (CoordinatorKeeps sc (epoch_at w.actors.servers) (asked_in w.mails txn)) part.up c up.up (epochs.coordinators txn.0 part up.found) in
@@ -434,6 +438,7 @@ coordinator_paired sc w declared txn part c few sound epochs trusts h up exists 
       numbered = numbered;
       low = low_turn sc w.facts (length w.steps) c c.phase few fits refl (asked_within sc declared (pair_at w.actors txn) c c.phase refl declared_is numbered all is);
       places = keeps.places;
+      servers = agrees.agrees.servers;
       keeps = λ undecided. (keeps.undecided undecided).round;
       names = phase_names sc w.facts (length w.steps) c.txn c.phase declared declared_is fits.awaits;
     }
@@ -471,7 +476,7 @@ receipt_by_coordinator_in_known sc w valid homes few sound a epochs trusts h n m
     subst (λ (to : Actor). BodyPairs sc (pair_at w.actors) mail.letter.from to mail.letter.body) sent.goes_to (each_get (λ (m : Mail). LetterPairs sc (pair_at w.actors) m.letter) w.mails n mail h.mails sent.sent) in
     coordinator_acts_pairs sc w d.0 txn part (Some effect.state) [] effect.reaction.append effect.reaction.letters h up.found d.1
     (row_asks sc d.0 txn (pair_at w.actors txn) effect (same_txn_row sc w sound a n mail txn part c sent up)
-    (coordinator_row_asks sc d.0 (pair_at w.actors txn) c mail valid homes (coordinator_paired sc w d.0 txn part c few sound epochs trusts h up d.1)
+    (coordinator_row_asks sc d.0 (pair_at w.actors txn) c mail valid homes (coordinator_paired sc w d.0 txn part c few sound a epochs trusts h up d.1)
     (answer_pairs sc w d.0 txn mail.letter.from mail.letter.body d.1 (mail_sound sc w n mail (actor.Coordinator txn) sound sent) said)))
 
 begun_pairs : (sc : Scenario) (w : State) → is_built sc ≡ true → AreFew sc → IsSound sc w → Agrees sc w → Epochs sc w → Trusts sc w → Pairs sc w → (txn : TxnId) (part : Part Coordinator) (c : Coordinator) → IsTxn sc txn
@@ -483,12 +488,12 @@ begun_pairs sc w built few sound a epochs trusts h txn part c exists up new =
     let same = (submission_unforced sc c (length w.steps)).same_txn ∙ own_txn sc w txn part c sound up.found up.up in
     coordinator_acts_pairs sc w d.0 txn part (Some effect.state) (what.Submitted txn ∷ []) effect.reaction.append effect.reaction.letters h up.found d.1
     (row_asks sc d.0 txn (pair_at w.actors txn) effect same
-    (submit_row_asks sc d.0 (pair_at w.actors txn) c (length w.steps) (coordinator_paired sc w d.0 txn part c few sound epochs trusts h up d.1) new))
+    (submit_row_asks sc d.0 (pair_at w.actors txn) c (length w.steps) (coordinator_paired sc w d.0 txn part c few sound a epochs trusts h up d.1) new))
 
 -- a timer sends requests again, and all pairs are as they were
-timed_pairs : (sc : Scenario) (w : State) → AreFew sc → IsSound sc w → Epochs sc w → Trusts sc w → Pairs sc w → (txn : TxnId) (part : Part Coordinator) (c : Coordinator) → IsTxn sc txn → IsCoordinatorUp w txn part c
+timed_pairs : (sc : Scenario) (w : State) → AreFew sc → IsSound sc w → Agrees sc w → Epochs sc w → Trusts sc w → Pairs sc w → (txn : TxnId) (part : Part Coordinator) (c : Coordinator) → IsTxn sc txn → IsCoordinatorUp w txn part c
     → MovePairs sc w (record { actors = w.actors; happened = []; letters = repeats sc c c.phase })
-timed_pairs sc w few sound epochs trusts h txn part c exists up =
+timed_pairs sc w few sound a epochs trusts h txn part c exists up =
     let d = declared_by sc txn exists in
     let P : ℕ → Pair = pair_at w.actors txn in
     let same : c.txn ≡ txn = own_txn sc w txn part c sound up.found up.up in
@@ -499,7 +504,7 @@ timed_pairs sc w few sound epochs trusts h txn part c exists up =
       letters = each_as (λ (letter : Letter). AskPairs sc d.0 txn P letter.to letter.body) (LetterPairs sc (pair_at w.actors))
           (λ letter asks. ask_pairs sc d.0 txn (pair_at w.actors) P letter.from letter.to letter.body d.1 (λ at. refl) asks) (repeats sc c c.phase)
           (subst (λ (t : TxnId). Each (λ (letter : Letter). AskPairs sc d.0 t P letter.to letter.body) (repeats sc c c.phase)) same
-          (repeats_ask sc d.0 P c (coordinator_paired sc w d.0 txn part c few sound epochs trusts h up d.1)));
+          (repeats_ask sc d.0 P c (coordinator_paired sc w d.0 txn part c few sound a epochs trusts h up d.1)));
     }
 
 -- ---- steps
@@ -526,7 +531,7 @@ pairs_cases sc w built valid few rightly sound a epochs trusts h =
       ticked = λ by. still_pairs sc w (what.Ticked by ∷ []) [] (record w.actors { authority = office.after_tick by w.actors.authority }) h refl refl tt;
       revoked = λ cred exists. still_pairs sc w (what.Revoked cred ∷ []) [] (record w.actors { authority = office.after_revocation cred w.actors.authority }) h refl refl tt;
       begun = λ txn part c exists up new. begun_pairs sc w built few sound a epochs trusts h txn part c exists up new;
-      timed = λ txn part c exists up begun. timed_pairs sc w few sound epochs trusts h txn part c exists up;
+      timed = λ txn part c exists up begun. timed_pairs sc w few sound a epochs trusts h txn part c exists up;
     }
 
 -- a step that is not refused keeps what is said of deeds and epochs

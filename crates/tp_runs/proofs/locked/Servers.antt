@@ -3,9 +3,14 @@ use Rattle.std.proofs.Common.{Bool, List, None, Option, Some, [], ap, arith, dro
 use Rattle.std.proofs.lemmas.Bool.{eqb-true, ne_eqb, or_parts}
 use Rattle.std.proofs.lemmas.List.{length-map, length-set}
 use Rattle.std.proofs.lemmas.Option.{same_Some}
-use Rattle.tp_types.proofs.ListLemmas.{number_itself}
-use Rattle.tp_types.specs.Effect.{Effect}
 use Rattle.std.specs.Option.{option_flatten}
+use Rattle.tp_types.proofs.EachLemmas.{each_as, each_both, each_dropped, each_get, each_more, filtered, none_if_not_some, placed_emptied_others, placed_set, set_here}
+use Rattle.tp_types.proofs.ListLemmas.{number_itself}
+use Rattle.tp_types.specs.Each.{Each, EachPlaced}
+use Rattle.tp_types.specs.Effect.{Effect}
+use Rattle.tp_model.specs.Authorisation.{action_of}
+use Rattle.tp_model.specs.Deeds.{deed_of}
+use Rattle.tp_model.specs.Queries.{item_of}
 use Rattle.tp_model.specs.Words.{Action, Answer, Deed, ItemId, Mail, Query, QueryRequest, Scenario, ServerId, TxnId}
 use Rattle.tp_model.specs.Words.answer
 use Rattle.tp_model.specs.Words.body
@@ -14,27 +19,22 @@ use Rattle.tp_lock.proofs.RequestLaws.{after_request_orderly}
 use Rattle.tp_lock.specs.Laws.{Holds}
 use Rattle.tp_lock.specs.Rule.{after_release, entries_at, is_of_other, left_by, without_grant}
 use Rattle.tp_lock.specs.Table.{Table}
-use Rattle.tp_lock.specs.declared.entry.Asked.TheVariants as asked
 use Rattle.tp_lock.specs.declared.entry.Asked.{Asked}
+use Rattle.tp_lock.specs.declared.entry.Asked.TheVariants as asked
 use Rattle.tp_lock.specs.declared.entry.Grant.{Grant}
 use Rattle.tp_lock.specs.declared.entry.LockEntry.{LockEntry}
-use Rattle.tp_model.specs.Authorisation.{action_of}
-use Rattle.tp_model.specs.Deeds.{deed_of}
-use Rattle.tp_model.specs.Queries.{item_of}
+use Rattle.tp_server.proofs.Rows.{AreRightWaits, IsAsking, IsFirstHere, IsFurther, IsResumed, refusing, server_by_locks, unwaiting, with_locks}
+use Rattle.tp_server.proofs.Tables.{placed_within}
+use Rattle.tp_server.specs.Row.{after_asking, answers_with, asked_query, ballot_of, entry_after, entry_at, followed_by, lock_answer, prepared_record, server_row, with_answer}
+use Rattle.tp_server.specs.State.{Server}
+use Rattle.tp_server.specs.Verdicts.{with_wants}
+use Rattle.tp_server.specs.declared.server.Entry.{Entry}
+use Rattle.tp_runs.proofs.basics.Folds.{set_elsewhere}
 use Rattle.tp_runs.proofs.basics.Held.{IsGrantOf, holds_granted, holds_released, holds_requested, released_grants}
-use Rattle.tp_types.proofs.EachLemmas.{each_as, each_both, each_dropped, each_get, each_more, filtered, none_if_not_some, placed_emptied_others, placed_set, set_here}
 use Rattle.tp_runs.proofs.basics.LockCounts.{IsHeldOf, dropped_count, first_count, first_of_other, granted_to, held_on, more_waiting, none_granted, none_on, not_granted, one_if, release_count, release_exact, request_count, request_exact, waiting_on}
 use Rattle.tp_runs.proofs.basics.Locks.{EachLock, IsAdded, locks_as, released_locks, requested_locks}
-use Rattle.tp_server.proofs.Tables.{placed_within}
 use Rattle.tp_runs.proofs.locked.Fit.{DeedLocked, EntryAsks, EntryLocked, GrantFits, IsWaitedFor, LockWaits, Locked, LockedMeanwhile, WaitFits, locked_first, locked_last}
 use Rattle.tp_runs.proofs.locked.Taken.{server_row_taken}
-use Rattle.tp_runs.proofs.basics.Folds.{set_elsewhere}
-use Rattle.tp_server.proofs.Rows.{AreRightWaits, IsAsking, IsFirstHere, IsFurther, IsResumed, server_by_locks, unwaiting}
-use Rattle.tp_types.specs.Each.{Each, EachPlaced}
-use Rattle.tp_server.specs.declared.server.Entry.{Entry}
-use Rattle.tp_server.specs.Row.{after_asking, answers_with, asked_query, ballot_of, entry_after, entry_at, lock_answer, prepared_record, server_row, with_answer}
-use Rattle.tp_server.specs.State.{Server}
-use Rattle.tp_server.specs.Verdicts.{with_wants, verdicts_on}
 
 -- a receipt of a server, as far as grants were taken: its locks are kept, and there is a place for each transaction
 record RowTaking (sc : Scenario) (s : Server) (effect : Effect Server) : Type 0 where
@@ -386,16 +386,19 @@ row_taking sc s mail rightly known taken h =
                 (each_more (DeedLocked (after_asking s q query entry).locks q.txn) entry.deeds deed (asked_deeds sc s mail q query entry value k h) has) h;
             places = length-set s.entries q.txn.0 (Some new);
           };
-      denied = λ q query entry value verdict k granted d. answered_locked q query entry value (answer.Denied verdict) asked.Granted granted (λ e. cc) k;
+      denied = λ q query entry value verdict k granted d. let r = answered_locked q query entry value (answer.Denied verdict) asked.Granted granted (λ e. cc) k in record { state = r.state; places = r.places };
+      outdated = λ q query entry value newer k granted e. answered_locked q query entry value (answer.Newer newer) asked.Granted granted (λ waits. cc) k;
       waited = λ q query entry value k waiting.
           let new : Entry = record entry { waiting = Some q } in
           record { state = asked_locked sc s mail q query entry new value asked.Waits waiting k (within_for q k.said_is) (λ e. refl) (λ some. refl) (known.on_item q query k.said_is k.asked_is) (asked_deeds sc s mail q query entry value k h) h; places = length-set s.entries q.txn.0 (Some new) };
       died = λ q query entry value other k dying. answered_locked q query entry value (answer.Died other) (asked.Dies other) dying (λ e. cc) k;
       restarted = λ q k. record { state = h; places = refl };
       answered = λ q entry given k. record { state = h; places = refl };
-      voted = λ p entry staple txn k.
-          let voted : Entry = record entry { ballot = Some (ballot_of (prepared_record (with_wants s p.want) p entry (verdicts_on sc (with_wants s p.want) txn staple p.want entry.deeds))) } in
+      voted = λ p entry verdicts k.
+          let voted : Entry = record entry { ballot = Some (ballot_of (prepared_record (with_wants s p.want) p entry verdicts)) } in
           record { state = voted_locked sc s.entries s.locks p.txn.0 entry voted k.found refl refl h; places = length-set s.entries p.txn.0 (Some voted) };
+      shown = λ v entry txn k. record { state = h; places = refl };
+      lost_verdicts = λ v k. record { state = h; places = refl };
       voted_again = λ p entry cast k. record { state = h; places = refl };
       refused = λ p entry number value k. record { state = closed_locked sc s.entries s.locks p.txn taken h; places = length-set s.entries p.txn.0 None };
       lost = λ p k. record { state = closed_locked sc s.entries s.locks p.txn taken h; places = length-set s.entries p.txn.0 None };
@@ -412,12 +415,8 @@ row_taking sc s mail rightly known taken h =
             state = resumed_locked sc effect.state s.server grant q query entry new value k refl (each_more (DeedLocked effect.state.locks q.txn) entry.deeds deed (now.state.deeds q.txn.0 entry k.found) has) now.state;
             places = length-set effect.state.entries q.txn.0 (Some new) ∙ now.places;
           };
-      resumed_denied = λ effect grant q query entry value verdict k d now.
-          let new = with_answer q (unwaiting entry) (answer.Denied verdict) in
-          record {
-            state = resumed_locked sc effect.state s.server grant q query entry new value k refl (now.state.deeds q.txn.0 entry k.found) now.state;
-            places = length-set effect.state.entries q.txn.0 (Some new) ∙ now.places;
-          };
+      resumed_denied = λ effect grant q query entry value verdict k d now. let r = refused_locked effect grant q query entry value (answer.Denied verdict) k now in record { state = r.state; places = r.places };
+      resumed_outdated = λ effect grant q query entry value newer k e now. refused_locked effect grant q query entry value (answer.Newer newer) k now;
     })
   where
     within_for : (q : QueryRequest) → mail.letter.body ≡ body.Query q → q.txn.0 < length s.entries
@@ -425,6 +424,16 @@ row_taking sc s mail rightly known taken h =
 
     not_idle : (q : QueryRequest) (query : Query) (entry : Entry) (value : ℤ) → IsAsking sc s mail q query entry value → is_some entry.waiting ≡ true → ⊥
     not_idle q query entry value k some = let none = ap (λ (w : Option QueryRequest). is_some w) (idle_then sc s mail q query entry value k) in cc
+
+    -- what waited is given an answer that ends its transaction
+    refused_locked : (effect : Effect Server) (grant : Grant) (q : QueryRequest) (query : Query) (entry : Entry) (value : ℤ) (said : Answer) → IsResumed sc s.server effect.state grant q query entry value → RowTaking sc s effect
+        → RowTaking sc s (with_locks (followed_by effect (refusing effect.state q entry said)) (without_grant effect.state.locks))
+    refused_locked effect grant q query entry value said k now =
+        let new = with_answer q (unwaiting entry) said in
+        record {
+          state = resumed_locked sc effect.state s.server grant q query entry new value k refl (now.state.deeds q.txn.0 entry k.found) now.state;
+          places = length-set effect.state.entries q.txn.0 (Some new) ∙ now.places;
+        }
 
     -- the entry of a query that is answered does no more
     answered_locked : (q : QueryRequest) (query : Query) (entry : Entry) (value : ℤ) (said : Answer) (given : Asked) → lock_answer s q query entry ≡ given → (given ≡ asked.Waits → ⊥) → IsAsking sc s mail q query entry value

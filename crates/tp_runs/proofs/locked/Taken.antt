@@ -1,22 +1,22 @@
 -- Locks at a server, grants: what a receipt grants is taken before it ends, so that none is left.
 use Rattle.std.proofs.Common.{List, None, Option, Some, [], ap, drop, is_none, is_some, nat_lt, not, refl, slice_get, ℕ, ℤ, ◌==◌, ◌∙◌, ◌∷◌, ◌≡◌}
 use Rattle.std.specs.Option.{option_flatten}
+use Rattle.tp_types.proofs.EachLemmas.{by_cond}
 use Rattle.tp_types.specs.Effect.{Effect}
-use Rattle.tp_lock.specs.Rule.{after_release}
-use Rattle.tp_lock.specs.Table.{Table}
-use Rattle.tp_lock.specs.declared.entry.Asked.TheVariants as asked
-use Rattle.tp_lock.specs.declared.entry.Asked.{Asked}
-use Rattle.tp_lock.specs.declared.entry.Grant.{Grant}
+use Rattle.tp_model.specs.Deeds.{deed_of}
+use Rattle.tp_model.specs.Words.{Body, DecideRequest, Deed, DoneReply, Letter, Mail, Newer, No, PrepareRequest, Query, QueryRequest, Scenario, Settled, Staple, Transaction, ValidateRequest, Verdict}
 use Rattle.tp_model.specs.Words.body
 use Rattle.tp_model.specs.Words.no
-use Rattle.tp_model.specs.Words.{Body, DecideRequest, Deed, DoneReply, Letter, Mail, No, PrepareRequest, Query, QueryRequest, Scenario, Settled, Staple, Transaction, Verdict}
-use Rattle.tp_model.specs.Deeds.{deed_of}
-use Rattle.tp_types.proofs.EachLemmas.{by_cond}
+use Rattle.tp_lock.specs.Rule.{after_release}
+use Rattle.tp_lock.specs.Table.{Table}
+use Rattle.tp_lock.specs.declared.entry.Asked.{Asked}
+use Rattle.tp_lock.specs.declared.entry.Asked.TheVariants as asked
+use Rattle.tp_lock.specs.declared.entry.Grant.{Grant}
+use Rattle.tp_server.specs.Row.{ack_letter, after_asking, after_grant, after_grants, age_of, answer_to, asked_query, asked_to_show, asked_to_vote, asks, asks_query, asks_with, by_lock, closes, ends, entry_at, evaluates, is_open, lock_answer, names_another_epoch, new_entry, newer_known, no_letter, on_body, on_open_query, on_refused, on_settled_decide, on_settled_prepare, on_unlost_query, pinned, refused_as, resumes_at, resumes_query, resumes_waiting, resumes_with, runs_at, runs_by, server_row, settled_as, shows_with, taken_from, value_of_run, verdict_at, votes_at, votes_in_range, votes_with, waiting_at, without_waiting}
+use Rattle.tp_server.specs.State.{Server}
+use Rattle.tp_server.specs.Verdicts.{admin_of, version_known}
 use Rattle.tp_server.specs.declared.server.Ballot.{Ballot}
 use Rattle.tp_server.specs.declared.server.Entry.{Entry}
-use Rattle.tp_server.specs.Row.{ack_letter, after_asking, after_grant, after_grants, age_of, answer_to, asked_query, asked_to_vote, asks, asks_query, asks_with, by_lock, closes, ends, entry_at, evaluates, is_open, lock_answer, names_another_epoch, new_entry, no_letter, on_body, on_open_query, on_refused, on_settled_decide, on_settled_prepare, on_unlost_query, refused_as, resumes_at, resumes_query, resumes_waiting, resumes_with, runs_by, server_row, settled_as, taken_from, value_of_run, verdict_at, votes_at, votes_in_range, votes_with, waiting_at, without_waiting}
-use Rattle.tp_server.specs.State.{Server}
-use Rattle.tp_server.specs.Verdicts.{version_known}
 use Rattle.tp_store.specs.Rule.{first_outside_in}
 
 -- no grant is left
@@ -30,10 +30,15 @@ runs_keeps : (s : Server) (q : QueryRequest) (query : Query) (entry : Entry) (de
 runs_keeps s q query entry deed None = refl
 runs_keeps s q query entry deed (Some verdict) = by_cond (λ (effect : Effect Server). effect.state.locks ≡ s.locks) (is_none verdict.rule) (λ fails. refl) (λ holds. refl)
 
+-- so does one whose server knows a newer version than the pinned one
+at_newer_keeps : (sc : Scenario) (s : Server) (q : QueryRequest) (query : Query) (entry : Entry) (deed : Deed) (found : Option Newer) → (runs_at sc s q query entry deed found).state.locks ≡ s.locks
+at_newer_keeps sc s q query entry deed (Some newer) = refl
+at_newer_keeps sc s q query entry deed None = runs_keeps (pinned sc s q deed) q query entry deed (verdict_at sc (pinned sc s q deed) q deed)
+
 -- so does what goes on
 with_keeps : (sc : Scenario) (s : Server) (q : QueryRequest) (query : Query) (entry : Entry) (value : Option ℤ) → (resumes_with sc s q query entry value).state.locks ≡ s.locks
 with_keeps sc s q query entry None = refl
-with_keeps sc s q query entry (Some value) = let deed = deed_of q.query query value in runs_keeps s q query entry deed (verdict_at sc s q deed)
+with_keeps sc s q query entry (Some value) = let deed = deed_of q.query query value in at_newer_keeps sc s q query entry deed (newer_known s (admin_of sc deed.item) q.pin)
 
 query_keeps : (sc : Scenario) (s : Server) (q : QueryRequest) (entry : Entry) (query : Option Query) → (resumes_query sc s q entry query).state.locks ≡ s.locks
 query_keeps sc s q entry None = refl
@@ -64,7 +69,7 @@ lock_taken : (sc : Scenario) (s : Server) (q : QueryRequest) (query : Query) (en
 lock_taken sc s q query entry value asked.Granted e =
     let now = after_asking s q query entry in
     let deed = deed_of q.query query value in
-    ap (λ (locks : Table). locks.grants) (runs_keeps now q query entry deed (verdict_at sc now q deed)) ∙ e
+    ap (λ (locks : Table). locks.grants) (at_newer_keeps sc now q query entry deed (newer_known now (admin_of sc deed.item) q.pin)) ∙ e
 lock_taken sc s q query entry value asked.Waits e = e
 lock_taken sc s q query entry value (asked.Dies other) e = e
 
@@ -77,7 +82,7 @@ query_taken sc s q entry None e = e
 query_taken sc s q entry (Some query) e = value_taken sc s q query entry (value_of_run s q query) e
 
 asks_taken : (sc : Scenario) (s : Server) (q : QueryRequest) (entry : Entry) → s.locks.grants ≡ [] → HasTaken (asks sc s q entry)
-asks_taken sc s q entry e = by_cond HasTaken (is_none q.pin) (λ unpinned. query_taken sc s q entry (asked_query sc q) e) (λ pinned. e)
+asks_taken sc s q entry e = query_taken sc s q entry (asked_query sc q) e
 
 unlost_taken : (sc : Scenario) (s : Server) (q : QueryRequest) (entry : Entry) (given : Option DoneReply) → s.locks.grants ≡ [] → HasTaken (on_unlost_query sc s q entry given)
 unlost_taken sc s q entry (Some given) e = e
@@ -127,6 +132,17 @@ late_order_taken : (s : Server) (d : DecideRequest) (settled : Option Settled) �
 late_order_taken s d None e = e
 late_order_taken s d (Some settled) e = e
 
+-- ---- Validate
+
+shows_taken : (sc : Scenario) (s : Server) (v : ValidateRequest) (entry : Entry) (txn : Option Transaction) → s.locks.grants ≡ [] → HasTaken (shows_with sc s v entry txn)
+shows_taken sc s v entry None e = e
+shows_taken sc s v entry (Some txn) e = e
+
+to_show_taken : (sc : Scenario) (s : Server) (v : ValidateRequest) (entry : Option Entry) → s.locks.grants ≡ [] → HasTaken (asked_to_show sc s v entry)
+to_show_taken sc s v None e = e
+to_show_taken sc s v (Some entry) e =
+    by_cond HasTaken (is_some entry.ballot) (λ voted. e) (λ unvoted. by_cond HasTaken (not (entry.epoch == v.epoch)) (λ another. e) (λ same. shows_taken sc s v entry (slice_get sc.txns v.txn.0) e))
+
 -- ---- all mails
 
 said_taken : (sc : Scenario) (s : Server) (sent : ℕ) (said : Body) → s.locks.grants ≡ [] → HasTaken (on_body sc s sent said)
@@ -135,6 +151,7 @@ said_taken sc s sent (body.Prepare p) e =
     by_cond HasTaken (is_open s p.txn) (λ unsettled. to_vote_taken sc s p (entry_at s p.txn) e) (λ settled. late_request_taken s p (option_flatten (slice_get s.settled p.txn.0)) e)
 said_taken sc s sent (body.Decide d) e =
     by_cond HasTaken (is_open s d.txn) (λ unsettled. ends_taken sc s (settled_as d) (ack_letter s d.txn)) (λ settled. late_order_taken s d (option_flatten (slice_get s.settled d.txn.0)) e)
+said_taken sc s sent (body.Validate v) e = by_cond HasTaken (is_open s v.txn) (λ unsettled. to_show_taken sc s v (entry_at s v.txn) e) (λ settled. e)
 said_taken sc s sent (body.Push push) e = by_cond HasTaken (nat_lt (version_known s push.admin).0 push.version.0) (λ newer. e) (λ known. e)
 said_taken sc s sent _ e = e
 

@@ -100,7 +100,7 @@ PrepareAt sc P (actor.Server at) r = (declared : Transaction) → slice_get sc.t
 PrepareAt sc P _ r = Unit {0}
 
 abbrev pub ValidateAt : Scenario → (TxnId → ℕ → Pair) → Actor → ValidateRequest → Type 0
-ValidateAt sc P (actor.Server at) v = (declared : Transaction) → slice_get sc.txns v.txn.0 ≡ Some declared → ValidateFits (P v.txn at.0) v
+ValidateAt sc P (actor.Server at) v = (declared : Transaction) → slice_get sc.txns v.txn.0 ≡ Some declared → ValidateFits (site_of sc at.0 declared) (P v.txn at.0) v
 ValidateAt sc P _ v = Unit {0}
 
 abbrev pub DoneFrom : Scenario → (TxnId → ℕ → Pair) → Actor → DoneReply → Type 0
@@ -146,7 +146,7 @@ done_stays_in_pairs sc P Q (actor.Server at) done f h = λ declared e. done_foll
 done_stays_in_pairs sc P Q _ done f h = tt
 
 validate_stays : (sc : Scenario) (P Q : TxnId → ℕ → Pair) (to : Actor) (v : ValidateRequest) → AllFollow sc P Q → ValidateAt sc P to v → ValidateAt sc Q to v
-validate_stays sc P Q (actor.Server at) v f h = λ declared e. validate_follows (P v.txn at.0) (Q v.txn at.0) v (f v.txn at.0 declared e) (h declared e)
+validate_stays sc P Q (actor.Server at) v f h = λ declared e. validate_follows (site_of sc at.0 declared) (P v.txn at.0) (Q v.txn at.0) v (f v.txn at.0 declared e) (h declared e)
 validate_stays sc P Q _ v f h = tt
 
 verdicts_stay : (sc : Scenario) (P Q : TxnId → ℕ → Pair) (from : Actor) (reply : VerdictsReply) → AllFollow sc P Q → VerdictsFrom sc P from reply → VerdictsFrom sc Q from reply

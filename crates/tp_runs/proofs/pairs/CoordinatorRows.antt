@@ -1,29 +1,32 @@
 -- Deeds and epochs, the coordinator's rows: each is an event at every server, as the coordinator's transaction is seen there.
+use Rattle.std.specs.List.{list_any}
 use Rattle.std.specs.Option.{option_flatten, option_map_or}
-use Rattle.std.proofs.Common.{Bool, IfSome, List, None, Option, Some, [], ap, arith, false, if◌then◌else◌, length, map, option_and_then, option_map, refl, slice_get, slice_set, subst, suc, sym, true, zero, ℕ, ℤ, ◌++◌, ◌+◌, ◌<◌, ◌==◌, ◌∙◌, ◌∷◌, ◌≡◌, ◌≤◌, ◌⊎◌}
+use Rattle.std.proofs.Common.{Bool, IfSome, List, None, Option, Some, [], ap, arith, false, if◌then◌else◌, inl, is_some, length, map, option_and_then, option_map, refl, slice_get, slice_set, subst, suc, sym, true, zero, ℕ, ℤ, ◌++◌, ◌+◌, ◌<◌, ◌==◌, ◌||◌, ◌∙◌, ◌∷◌, ◌≡◌, ◌≤◌, ◌⊎◌}
 use Rattle.std.proofs.lemmas.Bool.{and_parts, eq-eqb, eqb-true}
 use Rattle.std.proofs.lemmas.List.{length_push}
 use Rattle.std.proofs.lemmas.Option.{same_Some, slice_get_within}
 use Rattle.tp_types.proofs.ListLemmas.{number_itself}
 use Rattle.tp_types.specs.Effect.{Effect, ignores}
+use Rattle.tp_model.specs.Agreement.{has_item}
 use Rattle.tp_model.specs.Queries.{is_at_server, item_of, query_at}
 use Rattle.tp_model.specs.Limits.{is_empty}
 use Rattle.tp_model.specs.Words.actor
 use Rattle.tp_model.specs.Words.body
 use Rattle.tp_model.specs.Words.outcome
-use Rattle.tp_model.specs.Words.{Actor, Body, Deed, DoneReply, Item, Letter, Mail, Outcome, PrepareRequest, Query, QueryRequest, Reading, Scenario, ServerId, Staple, Transaction, TxnId, ValidateRequest, Verdict}
-use Rattle.tp_runs.proofs.agreement.Coordinator.{idle_is}
-use Rattle.tp_runs.proofs.basics.Homes.{HaveHomes, IsHome, home_is, last_is, next_is}
-use Rattle.tp_types.proofs.EachLemmas.{each_get, set_here}
-use Rattle.tp_runs.proofs.basics.Phases.{Asks, Pauses, Prepares, Stand, awaits_is, is_undecided, sent_to_server, stand_of}
-use Rattle.tp_runs.proofs.epochs.Coordinator.{some_is}
-use Rattle.tp_runs.proofs.epochs.Kept.{KeepsEpoch, PhaseKept, from_server, kept_epoch, with_ran}
+use Rattle.tp_model.specs.Words.{Actor, AdminId, Body, Deed, DoneReply, Instance, Item, Letter, Mail, Outcome, PrepareRequest, Query, QueryRequest, Reading, Scenario, ServerId, Staple, Transaction, TxnId, ValidateRequest, Verdict, Version}
+use Rattle.tp_runs.proofs.agreement.Coordinator.{HaveItems, HoldsItem, idle_is, servers_at_have_items}
+use Rattle.tp_runs.proofs.basics.Homes.{HaveHomes, IsHome, begins_of_query, home_is, is_beginning, is_ending, is_of_query, is_past, is_probed, is_voted, probed_there, validated_ran}
+use Rattle.tp_runs.proofs.basics.Passed.{judged_stands, judged_undecided, passed_past, passed_undecided, query_stands, reply_checking}
+use Rattle.tp_types.proofs.EachLemmas.{each_as, each_get, set_here}
+use Rattle.tp_runs.proofs.basics.Phases.{Asks, Pauses, Prepares, Stand, awaits_is, is_undecided, sent_to_server, stand_of, stand_over}
+use Rattle.tp_runs.proofs.epochs.Coordinator.{ran_of_query, some_is}
+use Rattle.tp_runs.proofs.epochs.Kept.{KeepsEpoch, PhaseKept, from_server, kept_epoch, none_left}
 use Rattle.tp_runs.proofs.ids.Valid.{IsValid, IsValidItem}
 use Rattle.tp_runs.proofs.pairs.Actors.{asker_in, asker_of, asker_up, site_of}
 use Rattle.tp_runs.proofs.pairs.Answered.{Taken, answered, elsewhere, next_deed, taken, takes}
-use Rattle.tp_runs.proofs.pairs.Fits.{AnswerFits, AskerFits, DoneFits, Fits, Names, PrepareFits, QueryFits, RanFits, ValidateFits, VerdictsFits}
+use Rattle.tp_runs.proofs.pairs.Fits.{AnswerFits, AskerFits, DoneFits, Fits, Names, NamesIfAny, PrepareFits, QueryFits, RanFits, ValidateFits, VerdictsFits}
 use Rattle.tp_runs.proofs.pairs.Follows.{Next, next_both, next_same}
-use Rattle.tp_runs.proofs.pairs.Letters.{asks, prepares}
+use Rattle.tp_runs.proofs.pairs.Letters.{asks, late_epoch, prepares, validates}
 use Rattle.tp_runs.proofs.basics.Found.{of_some}
 use Rattle.tp_runs.proofs.pairs.Moves.{ends, moved, moves, with_asker}
 use Rattle.tp_runs.proofs.pairs.Pair.{Asker, Pair}
@@ -33,13 +36,16 @@ use Rattle.tp_runs.proofs.deeds.Runs.{deed_asked, deed_at}
 use Rattle.tp_runs.proofs.basics.Turns.{turn_rises}
 use Rattle.tp_scheme.specs.declared.moves.Move.TheVariants as move
 use Rattle.tp_scheme.specs.declared.moves.Point.TheVariants as point
-use Rattle.tp_coord.proofs.Rows.{ByReading, ByVotes, Gained, IsJudged, IsPassed, IsRanAnswer, QueryRan, coordinator_by, gains_instances, submit_by, timer_by, with_gained}
+use Rattle.tp_scheme.specs.declared.moves.Move.{Move}
+use Rattle.tp_scheme.specs.declared.moves.Point.{Point}
+use Rattle.tp_coord.proofs.Rows.{AfterQuery, AfterVotes, AllTrue, AllVoted, ByReading, ByReplies, Gained, IsJudged, IsPassed, IsProbing, IsRanAnswer, ProofsRead, QueryRan, coordinator_by, gains_deed, gains_instances, submit_by, timer_by, with_gained}
 use Rattle.tp_machine.specs.Machine.{with_age}
 use Rattle.tp_model.specs.Deeds.{deed_of}
 use Rattle.tp_types.specs.Each.{Each}
 use Rattle.tp_coord.specs.Sums.{asked_value}
 use Rattle.tp_coord.specs.Row as coord
-use Rattle.tp_coord.specs.Row.{awaits_query, next_number, next_turn, own_query, server_of}
+use Rattle.tp_coord.specs.Opened.{servers_at}
+use Rattle.tp_coord.specs.Row.{awaits_query, next_at, next_number, next_turn, number_at, own_query, server_of}
 use Rattle.tp_coord.specs.State.{Coordinator}
 use Rattle.tp_coord.specs.declared.coordinator.Phase.TheVariants as phase
 use Rattle.tp_coord.specs.declared.coordinator.Phase.{Phase}
@@ -75,15 +81,15 @@ abbrev pub PrepareTo : Scenario → Transaction → TxnId → (ℕ → Pair) →
 PrepareTo sc declared txn Q (actor.Server at) r = (r.txn ≡ txn) × PrepareFits (site_of sc at.0 declared) (Q at.0) r
 PrepareTo sc declared txn Q _ r = Unit {0}
 
-abbrev pub ValidateTo : TxnId → (ℕ → Pair) → Actor → ValidateRequest → Type 0
-ValidateTo txn Q (actor.Server at) v = (v.txn ≡ txn) × ValidateFits (Q at.0) v
-ValidateTo txn Q _ v = Unit {0}
+abbrev pub ValidateTo : Scenario → Transaction → TxnId → (ℕ → Pair) → Actor → ValidateRequest → Type 0
+ValidateTo sc declared txn Q (actor.Server at) v = (v.txn ≡ txn) × ValidateFits (site_of sc at.0 declared) (Q at.0) v
+ValidateTo sc declared txn Q _ v = Unit {0}
 
 -- what a coordinator requests of its transaction; it answers nothing
 abbrev pub AskPairs : Scenario → Transaction → TxnId → (ℕ → Pair) → Actor → Body → Type 0
 AskPairs sc declared txn Q to (body.Query q) = QueryTo sc declared txn Q to q
 AskPairs sc declared txn Q to (body.Prepare r) = PrepareTo sc declared txn Q to r
-AskPairs sc declared txn Q to (body.Validate v) = ValidateTo txn Q to v
+AskPairs sc declared txn Q to (body.Validate v) = ValidateTo sc declared txn Q to v
 AskPairs sc declared txn Q to (body.Done done) = ⊥
 AskPairs sc declared txn Q to (body.Vote reply) = ⊥
 AskPairs sc declared txn Q to (body.Verdicts reply) = ⊥
@@ -103,10 +109,15 @@ RowAsks sc declared P effect = CoordinatorActsPairs sc declared effect.state.txn
 abbrev pub NamesAt : Scenario → Transaction → Round → ServerId → Type 0
 NamesAt sc declared round at = (is_empty (coord.want_for round at) ≡ true) ⊎ Names (site_of sc at.0 declared) (coord.want_for round at)
 
--- a round at commit before which the authority is asked, or whose votes are awaited
+-- and what a round over the queries up to one wants of it, those of these queries
+abbrev pub NamesOver : Scenario → Transaction → Span → Round → ServerId → Type 0
+NamesOver sc declared (span.Validate number) round at = NamesIfAny (site_of sc at.0 declared) number (coord.want_for round at)
+NamesOver sc declared span.Commit round at = NamesAt sc declared round at
+
+-- a round before which the authority is asked, or whose replies are awaited
 abbrev pub PhaseNames : Scenario → Transaction → Phase → Type 0
-PhaseNames sc declared (phase.Asking span.Commit round) = Each (NamesAt sc declared round) (missing_in round.targets)
-PhaseNames sc declared (phase.Checking span.Commit round staple) = Each (NamesAt sc declared round) (missing_in round.targets)
+PhaseNames sc declared (phase.Asking over round) = Each (NamesOver sc declared over round) (missing_in round.targets)
+PhaseNames sc declared (phase.Checking over round staple) = Each (NamesOver sc declared over round) (missing_in round.targets)
 PhaseNames sc declared _ = Unit {0}
 
 -- a coordinator before its row
@@ -117,12 +128,13 @@ pub record CoordinatorPaired (sc : Scenario) (declared : Transaction) (P : ℕ �
   pub numbered : PhaseNumbered c.phase c.deeds
   pub low : c.turn ≤ 1000
   pub places : length c.epochs ≡ length sc.servers
+  pub servers : c.servers ≡ servers_at sc c.txn
   pub keeps : is_undecided c.phase ≡ true → PhaseKept (KeepsEpoch c) c.phase
   pub names : PhaseNames sc declared c.phase
 
 -- ---- the asker
 
-undecided_asker : (at : ℕ) (c : Coordinator) → is_undecided c.phase ≡ true → asker_up at c ≡ Some (asker_of at c)
+pub undecided_asker : (at : ℕ) (c : Coordinator) → is_undecided c.phase ≡ true → asker_up at c ≡ Some (asker_of at c)
 undecided_asker at c e = ap (λ (b : Bool). if b then Some (asker_of at c) else None) e
 
 asker_there : (sc : Scenario) (declared : Transaction) (P : ℕ → Pair) (c : Coordinator) (at : ℕ) → CoordinatorPaired sc declared P c → is_undecided c.phase ≡ true → (P at).asker ≡ Some (asker_of at c)
@@ -133,6 +145,12 @@ still_asks : (sc : Scenario) (declared : Transaction) (P : ℕ → Pair) (c now 
     → Next (site_of sc at declared) (P at) (with_asker (P at) (asker_up at now))
 still_asks sc declared P c now at h same =
     subst (λ (o : Option Asker). Next (site_of sc at declared) (P at) (with_asker (P at) o)) (h.asker_is at ∙ sym same) (next_same (site_of sc at declared) (P at) (h.fits at))
+
+-- so is one that awaits something else in the same turn, and stands as before
+same_asker : (at : ℕ) (c : Coordinator) (next : Phase) → is_undecided c.phase ≡ true → is_undecided next ≡ true → stand_of next ≡ stand_of c.phase → asker_up at (record c { phase = next }) ≡ asker_up at c
+same_asker at c next undecided still same =
+    undecided_asker at (record c { phase = next }) still
+    ∙ (ap (λ (s : Stand). Some (record { stand = s; turn = c.turn; epoch = option_flatten (slice_get c.epochs at); deeds = c.deeds })) same ∙ sym (undecided_asker at c undecided))
 
 ignores_asks : (sc : Scenario) (declared : Transaction) (P : ℕ → Pair) (c : Coordinator) → CoordinatorPaired sc declared P c → RowAsks sc declared P (ignores c)
 ignores_asks sc declared P c h = record { next = λ at. still_asks sc declared P c c at h refl; numbered = h.numbered; requests = tt }
@@ -259,20 +277,6 @@ record IsAwaited (sc : Scenario) (declared : Transaction) (P : ℕ → Pair) (c 
   pub ran : RanFits (site_of sc server.0 declared) (P server.0) done value
   pub exists : server.0 < length sc.servers
 
-none_past : (queries : List Query) (n : ℕ) → slice_get queries n ≡ None → length queries ≤ n
-none_past [] n e = omega arith
-none_past (first ∷ queries) zero e = absurd (cc)
-none_past (first ∷ queries) (suc n) e = let later = none_past queries n e in omega (arith, later)
-
--- so many queries have run once the last has
-ran_all : (declared : Transaction) (number : ℕ) (asked : Query) → query_at declared number ≡ Some asked → query_at declared (number + 1) ≡ None → number ≡ length declared.queries
-ran_all declared zero asked e f = absurd (cc)
-ran_all declared (suc before) asked e f =
-    let within = slice_get_within declared.queries before asked e in
-    let next : suc before + 1 ≡ suc (suc before) = omega arith in
-    let past = none_past declared.queries (suc before) (ap (query_at declared) (sym next) ∙ f) in
-    omega (arith, within, past)
-
 -- what all servers see of the answer: the coordinator has one deed more, and goes on
 moves_on : (s : Site) (p : Pair) (a : Asker) (b : Asker) (stand : Stand) (turn : ℕ) (value : ℤ) (epoch : Option ℕ) → b ≡ answered s a epoch value → a.turn < turn → (stand ≡ Asks → length a.deeds + 1 < count s)
     → (stand ≡ Prepares → length a.deeds + 1 ≡ count s) → Next s p (with_asker p (Some b)) → Next s p (with_asker p (Some (moved b stand turn)))
@@ -355,123 +359,117 @@ ran_at_in_pairs : (sc : Scenario) (declared : Transaction) (P : ℕ → Pair) (c
     → Next (site_of sc at declared) (P at) (with_asker (P at) (Some (asker_of at (gone_on c server done asked value now))))
 ran_at_in_pairs sc declared P c done asked server value now h k on at = ran_by sc declared P c done asked server value now at (server.0 == at) refl h k on
 
--- the number of the next query, once this one has its deed
-numbered_on : (sc : Scenario) (declared : Transaction) (P : ℕ → Pair) (c : Coordinator) (done : DoneReply) (asked : Query) (server : ServerId) (value : ℤ) → CoordinatorPaired sc declared P c
-    → IsAwaited sc declared P c done asked server value → next_number done.query ≡ done.query + 1 → next_number done.query ≡ length (coord.with_deed c server done asked value).deeds + 1
-numbered_on sc declared P c done asked server value h k further =
-    let number : done.query ≡ length c.deeds + 1 = subst (λ (p : Phase). PhaseNumbered p c.deeds) k.awaits h.numbered in
-    let longer : length (coord.with_deed c server done asked value).deeds ≡ length c.deeds + 1 = length_push c.deeds (deed_of done.query asked value) in
-    omega (arith, number, longer, further)
+-- ---- Tell
 
--- the last query ran
-last_asks : (sc : Scenario) (declared : Transaction) (P : ℕ → Pair) (c : Coordinator) (done : DoneReply) (asked : Query) (server : ServerId) (value : ℤ) (proof : Option Verdict) → CoordinatorPaired sc declared P c
-    → IsAwaited sc declared P c done asked server value → query_at declared (done.query + 1) ≡ None → RowAsks sc declared P (coord.asks (with_ran c server done asked value proof) span.Commit (coord.commit_round sc c))
-last_asks sc declared P c done asked server value proof h k none =
-    let number : done.query ≡ length c.deeds + 1 = subst (λ (p : Phase). PhaseNumbered p c.deeds) k.awaits h.numbered in
-    let all : done.query ≡ length declared.queries = ran_all declared done.query asked k.asked_is none in
-    record {
-      next = ran_at_in_pairs sc declared P c done asked server value (phase.Asking span.Commit (coord.commit_round sc c)) h k (record { asks = λ e. absurd (cc); all = λ e. sym number ∙ all });
-      numbered = tt;
-      requests = (tt, tt);
-    }
+-- a coordinator that requests something of servers in this turn, as each of them sees it then
+record IsRequesting (sc : Scenario) (declared : Transaction) (Q : ℕ → Pair) (c next : Coordinator) (turn : ℕ) : Type 0 where
+  pub own : c.txn ≡ next.txn
+  pub epochs : c.epochs ≡ next.epochs
+  pub turn_is : turn ≡ next.turn
+  pub is : (at : ℕ) → (Q at).asker ≡ Some (asker_of at next)
+  pub fits : (at : ℕ) → Fits (site_of sc at declared) (Q at)
 
--- the authority is asked before a further query
-next_staple_asks : (sc : Scenario) (declared : Transaction) (P : ℕ → Pair) (c : Coordinator) (done : DoneReply) (asked : Query) (server : ServerId) (value : ℤ) (proof : Option Verdict) → CoordinatorPaired sc declared P c
-    → IsAwaited sc declared P c done asked server value → next_number done.query ≡ done.query + 1 → RowAsks sc declared P (coord.asks_in (with_ran c server done asked value proof) (phase.Stapling (next_number done.query)))
-next_staple_asks sc declared P c done asked server value proof h k further =
-    record {
-      next = ran_at_in_pairs sc declared P c done asked server value (phase.Stapling (next_number done.query)) h k (record { asks = λ e. absurd (cc); all = λ e. absurd (cc) });
-      numbered = numbered_on sc declared P c done asked server value h k further;
-      requests = (tt, tt);
-    }
+-- the epoch that is kept of a server is named
+epoch_named : (sc : Scenario) (declared : Transaction) (Q : ℕ → Pair) (c next : Coordinator) (turn : ℕ) (at : ServerId) → IsRequesting sc declared Q c next turn → KeepsEpoch c at → (asker_of at.0 next).epoch ≡ Some (coord.epoch_of c at)
+epoch_named sc declared Q c next turn at k kept = ap (λ (epochs : List (Option ℕ)). option_flatten (slice_get epochs at.0)) (sym k.epochs) ∙ some_is (kept_epoch c at) kept
 
--- a further query is asked
-next_asks : (sc : Scenario) (declared : Transaction) (P : ℕ → Pair) (c : Coordinator) (done : DoneReply) (asked : Query) (server next : ServerId) (value : ℤ) (proof : Option Verdict) → CoordinatorPaired sc declared P c
-    → IsAwaited sc declared P c done asked server value → next_number done.query ≡ done.query + 1 → IsHome sc c (next_number done.query) next
-    → RowAsks sc declared P (coord.sends_query sc (with_ran c server done asked value proof) (next_number done.query) None next)
-next_asks sc declared P c done asked server next value proof h k further home =
-    let now = with_ran c server done asked value proof in
-    let number : done.query ≡ length c.deeds + 1 = subst (λ (p : Phase). PhaseNumbered p c.deeds) k.awaits h.numbered in
-    let numbered : next_number done.query ≡ length now.deeds + 1 = numbered_on sc declared P c done asked server value h k further in
-    let place : next_number done.query ≡ suc (length c.deeds + 1) = omega (arith, number, further) in
-    let asked_is : query_at declared (next_number done.query) ≡ Some home.asked = query_declared sc c declared (next_number done.query) home.asked h.declared_is home.asked_is in
-    let within : length c.deeds + 1 < length declared.queries = slice_get_within declared.queries (length c.deeds + 1) home.asked (subst (λ (n : ℕ). query_at declared n ≡ Some home.asked) place asked_is) in
-    let event = ran_at_in_pairs sc declared P c done asked server value (phase.Querying (next_number done.query) None) h k (record { asks = λ e. within; all = λ e. absurd (cc) }) in
+-- a request to prepare
+prepare_fits_in_pairs : (sc : Scenario) (declared : Transaction) (Q : ℕ → Pair) (c next : Coordinator) (turn : ℕ) (staple : Option Staple) (want : List (AdminId × Version)) (at : ServerId) → IsRequesting sc declared Q c next turn
+    → stand_of next.phase ≡ Prepares → KeepsEpoch c at → (is_empty want ≡ true) ⊎ Names (site_of sc at.0 declared) want → PrepareTo sc declared next.txn Q (actor.Server at) (coord.prepare_with c turn staple want at)
+prepare_fits_in_pairs sc declared Q c next turn staple want at k stand kept names =
+    (k.own, prepares (site_of sc at.0 declared) (Q at.0) (asker_of at.0 next) (coord.prepare_with c turn staple want at) (k.is at.0) (k.fits at.0) stand (epoch_named sc declared Q c next turn at k kept) names)
+
+-- a request in a round, which wants what its queries name
+round_letter_fits : (sc : Scenario) (declared : Transaction) (Q : ℕ → Pair) (c next : Coordinator) (over : Span) (turn : ℕ) (round : Round) (staple : Staple) (at : ServerId) → IsRequesting sc declared Q c next turn
+    → stand_of next.phase ≡ stand_over over → SpanNumbered over next.deeds → KeepsEpoch c at → NamesOver sc declared over round at
+    → AskPairs sc declared next.txn Q (coord.round_letter c over turn round staple at).to (coord.round_letter c over turn round staple at).body
+round_letter_fits sc declared Q c next (span.Validate number) turn round staple at k stand numbered kept names = (
+  k.own,
+  validates (site_of sc at.0 declared) (Q at.0) (asker_of at.0 next) (coord.validate_request c turn round staple at) (k.is at.0) (k.fits at.0) stand k.turn_is (epoch_named sc declared Q c next turn at k kept)
+      (subst (λ (last : ℕ). NamesIfAny (site_of sc at.0 declared) last (coord.want_for round at)) numbered names),
+)
+round_letter_fits sc declared Q c next span.Commit turn round staple at k stand numbered kept names =
+    prepare_fits_in_pairs sc declared Q c next turn (Some staple) (coord.want_for round at) at k stand kept names
+
+round_letters_fit : (sc : Scenario) (declared : Transaction) (Q : ℕ → Pair) (c next : Coordinator) (over : Span) (turn : ℕ) (round : Round) (staple : Staple) (servers : List ServerId) → IsRequesting sc declared Q c next turn
+    → stand_of next.phase ≡ stand_over over → SpanNumbered over next.deeds → Each (KeepsEpoch c) servers → Each (NamesOver sc declared over round) servers
+    → Each (λ (letter : Letter). AskPairs sc declared next.txn Q letter.to letter.body) (map (coord.round_letter c over turn round staple) servers)
+round_letters_fit sc declared Q c next over turn round staple [] k stand numbered kept names = tt
+round_letters_fit sc declared Q c next over turn round staple (at ∷ servers) k stand numbered kept names =
+    (round_letter_fits sc declared Q c next over turn round staple at k stand numbered kept.0 names.0, round_letters_fit sc declared Q c next over turn round staple servers k stand numbered kept.1 names.1)
+
+-- requests to prepare without an evaluation
+vote_letters_fit : (sc : Scenario) (declared : Transaction) (Q : ℕ → Pair) (c next : Coordinator) (turn : ℕ) (servers : List ServerId) → IsRequesting sc declared Q c next turn → stand_of next.phase ≡ Prepares → Each (KeepsEpoch c) servers
+    → Each (λ (letter : Letter). AskPairs sc declared next.txn Q letter.to letter.body) (coord.vote_letters c turn servers)
+vote_letters_fit sc declared Q c next turn [] k stand kept = tt
+vote_letters_fit sc declared Q c next turn (at ∷ servers) k stand kept =
+    (prepare_fits_in_pairs sc declared Q c next turn None [] at k stand kept.0 (inl refl), vote_letters_fit sc declared Q c next turn servers k stand kept.1)
+
+-- a round awaits no answer to a query
+over_answered : (over : Span) → stand_over over ≡ Asks → ⊥
+over_answered (span.Validate number) e = cc
+over_answered span.Commit e = cc
+
+-- a coordinator that stands as before, in a further turn
+stands_still : (sc : Scenario) (declared : Transaction) (P : ℕ → Pair) (c next : Coordinator) (over : Span) → CoordinatorPaired sc declared P c → is_undecided c.phase ≡ true → stand_of c.phase ≡ stand_over over
+    → ((at : ℕ) → asker_up at next ≡ Some (record { stand = stand_over over; turn = next_turn c; epoch = option_flatten (slice_get c.epochs at); deeds = c.deeds }))
+    → (at : ℕ) → Next (site_of sc at declared) (P at) (with_asker (P at) (asker_up at next))
+stands_still sc declared P c next over h undecided stands is at =
+    let old : AskerFits (site_of sc at declared) (P at) (asker_of at c) = of_some (AskerFits (site_of sc at declared) (P at)) (P at).asker (asker_of at c) (asker_there sc declared P c at h undecided) (h.fits at).asker in
+    stands_on sc declared P c next (stand_over over) h undecided (λ asks. over_answered over (sym stands ∙ asks)) (λ e. sym stands ∙ e) (λ e. absurd (over_answered over e)) (λ e. old.all (stands ∙ e)) is at
+
+-- each awaited server of a round is asked
+checks_asks : (sc : Scenario) (declared : Transaction) (P : ℕ → Pair) (c : Coordinator) (over : Span) (round : Round) (staple : Staple) → CoordinatorPaired sc declared P c → c.phase ≡ phase.Asking over round
+    → RowAsks sc declared P (coord.checks c over round staple)
+checks_asks sc declared P c over round staple h asking =
+    let next = (coord.checks c over round staple).state in
+    let undecided : is_undecided c.phase ≡ true = ap is_undecided asking in
+    let kept : EachServer (KeepsEpoch c) round.targets = subst (PhaseKept (KeepsEpoch c)) asking (h.keeps undecided) in
+    let numbered : SpanNumbered over c.deeds = subst (λ (p : Phase). PhaseNumbered p c.deeds) asking h.numbered in
+    let event : (at : ℕ) → Next (site_of sc at declared) (P at) (with_asker (P at) (asker_up at next)) = stands_still sc declared P c next over h undecided (ap stand_of asking) (λ at. refl) in
     record {
       next = event;
       numbered = numbered;
-      requests = (
-        (
-          refl,
-          query_requested sc declared (with_asker (P next.0) (Some (asker_of next.0 (coord.sends_query sc now (next_number done.query) None next).state))) now (next_turn now) (next_number done.query) None next h.declared_is (event next.0).fits refl numbered
-              (record { asked = home.asked; asked_is = home.asked_is; server_is = home.server_is }),
-        ),
-        tt,
-      );
+      requests = round_letters_fit sc declared (λ at. with_asker (P at) (asker_up at next)) c next over (next_turn c) round staple (missing_in round.targets)
+          (record { own = refl; epochs = refl; turn_is = refl; is = λ at. refl; fits = λ at. (event at).fits }) refl numbered (each_missing (KeepsEpoch c) round.targets kept) (subst (PhaseNames sc declared) asking h.names);
     }
 
--- ---- Tell
-
--- a request to prepare names the epoch that is kept
-prepare_fits_in_pairs : (sc : Scenario) (declared : Transaction) (Q : ℕ → Pair) (c next : Coordinator) (turn : ℕ) (round : Round) (staple : Staple) (servers : List ServerId) → c.txn ≡ next.txn
-    → ((at : ℕ) → (Q at).asker ≡ Some (asker_of at next)) → ((at : ℕ) → Fits (site_of sc at declared) (Q at)) → stand_of next.phase ≡ Prepares → c.epochs ≡ next.epochs → Each (KeepsEpoch c) servers → Each (NamesAt sc declared round) servers
-    → Each (λ (letter : Letter). AskPairs sc declared next.txn Q letter.to letter.body) (map (coord.prepare_letter c turn round staple) servers)
-prepare_fits_in_pairs sc declared Q c next turn round staple [] own is fits stand same h names = tt
-prepare_fits_in_pairs sc declared Q c next turn round staple (at ∷ servers) own is fits stand same h names =
-    let site = site_of sc at.0 declared in
-    let kept : (asker_of at.0 next).epoch ≡ Some (coord.epoch_of c at) =
-    ap (λ (epochs : List (Option ℕ)). option_flatten (slice_get epochs at.0)) (sym same) ∙ some_is (kept_epoch c at) h.0 in (
-      (own, prepares site (Q at.0) (asker_of at.0 next) (coord.prepare_request c turn round staple at) (is at.0) (fits at.0) stand kept names.0),
-      prepare_fits_in_pairs sc declared Q c next turn round staple servers own is fits stand same h.1 names.1,
-    )
-
--- a coordinator that prepares, in a further turn
-prepares_on : (sc : Scenario) (declared : Transaction) (P : ℕ → Pair) (c next : Coordinator) → CoordinatorPaired sc declared P c → stand_of c.phase ≡ Prepares → is_undecided c.phase ≡ true
-    → ((at : ℕ) → asker_up at next ≡ Some (record { stand = Prepares; turn = next_turn c; epoch = option_flatten (slice_get c.epochs at); deeds = c.deeds }))
-    → (at : ℕ) → Next (site_of sc at declared) (P at) (with_asker (P at) (asker_up at next))
-prepares_on sc declared P c next h stands undecided is at =
-    let old : AskerFits (site_of sc at declared) (P at) (asker_of at c) = of_some (AskerFits (site_of sc at declared) (P at)) (P at).asker (asker_of at c) (asker_there sc declared P c at h undecided) (h.fits at).asker in
-    stands_on sc declared P c next Prepares h undecided (λ asks. cc) (λ e. refl) (λ e. absurd (cc)) (λ e. old.all stands) is at
-
-prepares_asks : (sc : Scenario) (declared : Transaction) (P : ℕ → Pair) (c : Coordinator) (round : Round) (staple : Staple) → CoordinatorPaired sc declared P c → c.phase ≡ phase.Asking span.Commit round
-    → RowAsks sc declared P (coord.prepares c span.Commit round staple)
-prepares_asks sc declared P c round staple h asking =
-    let next = (coord.prepares c span.Commit round staple).state in
-    let undecided : is_undecided c.phase ≡ true = ap is_undecided asking in
-    let kept : EachServer (KeepsEpoch c) round.targets = subst (PhaseKept (KeepsEpoch c)) asking (h.keeps undecided) in
-    let event : (at : ℕ) → Next (site_of sc at declared) (P at) (with_asker (P at) (asker_up at next)) = prepares_on sc declared P c next h (ap stand_of asking) undecided (λ at. refl) in
-    record {
-      next = event;
-      numbered = tt;
-      requests = prepare_fits_in_pairs sc declared (λ at. with_asker (P at) (asker_up at next)) c next (next_turn c) round staple (missing_in round.targets) refl (λ at. refl) (λ at. (event at).fits) refl refl
-          (each_missing (KeepsEpoch c) round.targets kept) (subst (PhaseNames sc declared) asking h.names);
-    }
-
--- a coordinator that judges a round prepares
-record IsJudging (c : Coordinator) : Type 0 where
-  pub prepares : stand_of c.phase ≡ Prepares
-  pub undecided : is_undecided c.phase ≡ true
-
-judging : (c : Coordinator) (mail : Mail) (round : Round) (staple : Option Staple) (reading : Option Reading) → IsJudged c mail round staple reading → IsJudging c
-judging c mail _ _ _ (ByVotes reply round staple server verdicts y whole unread) = record { prepares = ap stand_of y.checking; undecided = ap is_undecided y.checking }
-judging c mail _ _ _ (ByReading reply round k) = record { prepares = ap stand_of k.reading; undecided = ap is_undecided k.reading }
+-- where a round is judged its number is that of the deeds
+judged_numbered : (c : Coordinator) (mail : Mail) (over : Span) (round : Round) (staple : Option Staple) (reading : Option Reading) → IsJudged c mail over round staple reading → PhaseNumbered c.phase c.deeds → SpanNumbered over c.deeds
+judged_numbered c mail _ _ _ _ (ByReplies over round staple server verdicts y whole unread) n = subst (λ (p : Phase). PhaseNumbered p c.deeds) (reply_checking c mail over round staple server verdicts y) n
+judged_numbered c mail _ _ _ _ (ByReading reply over round k) n = subst (λ (p : Phase). PhaseNumbered p c.deeds) k.reading n
 
 -- the authority is asked before a further round
-updated_asks : (sc : Scenario) (declared : Transaction) (P : ℕ → Pair) (c : Coordinator) (next : Round) → CoordinatorPaired sc declared P c → IsJudging c → RowAsks sc declared P (coord.asks c span.Commit next)
-updated_asks sc declared P c next h k =
-    record { next = prepares_on sc declared P c (coord.asks c span.Commit next).state h k.prepares k.undecided (λ at. refl); numbered = tt; requests = (tt, tt) }
+updated_asks : (sc : Scenario) (declared : Transaction) (P : ℕ → Pair) (c : Coordinator) (mail : Mail) (over : Span) (round next : Round) (staple : Option Staple) (reading : Option Reading) → CoordinatorPaired sc declared P c
+    → IsJudged c mail over round staple reading → RowAsks sc declared P (coord.asks c over next)
+updated_asks sc declared P c mail over round next staple reading h j =
+    record {
+      next = stands_still sc declared P c (coord.asks c over next).state over h (judged_undecided c mail over round staple reading j) (judged_stands c mail over round staple reading j) (λ at. refl);
+      numbered = judged_numbered c mail over round staple reading j h.numbered;
+      requests = (tt, tt);
+    }
 
 -- the master is read once all have replied
-probes_asks : (sc : Scenario) (declared : Transaction) (P : ℕ → Pair) (c : Coordinator) (round replied : Round) (staple : Staple) → CoordinatorPaired sc declared P c → c.phase ≡ phase.Checking span.Commit round staple
-    → RowAsks sc declared P (coord.probes c (phase.Reading span.Commit replied))
-probes_asks sc declared P c round replied staple h checking =
-    record { next = prepares_on sc declared P c (coord.probes c (phase.Reading span.Commit replied)).state h (ap stand_of checking) (ap is_undecided checking) (λ at. refl); numbered = tt; requests = (tt, tt) }
+probes_asks : (sc : Scenario) (declared : Transaction) (P : ℕ → Pair) (c : Coordinator) (over : Span) (round replied : Round) (staple : Staple) → CoordinatorPaired sc declared P c → c.phase ≡ phase.Checking over round staple
+    → RowAsks sc declared P (coord.probes c (phase.Reading over replied))
+probes_asks sc declared P c over round replied staple h checking =
+    record {
+      next = stands_still sc declared P c (coord.probes c (phase.Reading over replied)).state over h (ap is_undecided checking) (ap stand_of checking) (λ at. refl);
+      numbered = subst (λ (p : Phase). PhaseNumbered p c.deeds) checking h.numbered;
+      requests = (tt, tt);
+    }
+
+-- a reply is counted
+counts_asks : (sc : Scenario) (declared : Transaction) (P : ℕ → Pair) (c : Coordinator) (over : Span) (round replied : Round) (staple : Staple) → CoordinatorPaired sc declared P c → c.phase ≡ phase.Checking over round staple
+    → RowAsks sc declared P (coord.stays c over replied (Some staple))
+counts_asks sc declared P c over round replied staple h checking =
+    record {
+      next = λ at. still_asks sc declared P c (record c { phase = phase.Checking over replied staple }) at h (same_asker at c (phase.Checking over replied staple) (ap is_undecided checking) refl (sym (ap stand_of checking)));
+      numbered = subst (λ (p : Phase). PhaseNumbered p c.deeds) checking h.numbered;
+      requests = tt;
+    }
 
 -- ---- Vote, and the end
-
-counted_asker : (at : ℕ) (c : Coordinator) (round other : Round) (staple : Staple) → c.phase ≡ phase.Checking span.Commit round staple → asker_up at (record c { phase = phase.Checking span.Commit other staple }) ≡ asker_up at c
-counted_asker at c round other staple e =
-    ap (λ (s : Stand). Some (record { stand = s; turn = c.turn; epoch = option_flatten (slice_get c.epochs at); deeds = c.deeds })) (sym (ap stand_of e)) ∙ sym (undecided_asker at c (ap is_undecided e))
 
 -- an order to end says nothing of deeds
 pub orders_ask : (sc : Scenario) (declared : Transaction) (txn : TxnId) (Q : ℕ → Pair) (c : Coordinator) (ended : Outcome) (servers : List ServerId)
@@ -513,16 +511,224 @@ answer_awaited sc declared P c mail done server asked value proof h m exists k =
       exists = exists;
     }
 
--- a number that is no query of the transaction
-no_query : (sc : Scenario) (c : Coordinator) (declared : Transaction) (number : ℕ) → slice_get sc.txns c.txn.0 ≡ Some declared → own_query sc c number ≡ None → query_at declared number ≡ None
-no_query sc c declared number e f = sym (ap (λ (found : Option Transaction). option_and_then (λ (d : Transaction). query_at d number) found) e) ∙ f
-
 server_exists_in_pairs : (sc : Scenario) (asked : Query) (server : ServerId) → IsValid sc → server_of sc asked ≡ Some server → server.0 < length sc.servers
 server_exists_in_pairs sc asked server valid e = found (slice_get sc.items (item_of asked).0) refl e
   where
     found : (item : Option Item) → slice_get sc.items (item_of asked).0 ≡ item → option_map (λ (i : Item). i.server) item ≡ Some server → server.0 < length sc.servers
     found None f g = absurd (cc)
     found (Some item) f g = subst (λ (at : ServerId). at.0 < length sc.servers) (same_Some item.server server g) (each_get (IsValidItem sc) sc.items (item_of asked).0 item valid.items f).server
+
+-- ---- points that are passed
+
+-- the next phase of a coordinator with these deeds: it asks while queries are left, and prepares once all have run, for good
+record MayGoOn (declared : Transaction) (c : Coordinator) (deeds : List Deed) (next : Phase) : Type 0 where
+  pub undecided : is_undecided next ≡ true
+  pub asks : stand_of next ≡ Asks → length deeds < length declared.queries
+  pub all : stand_of next ≡ Prepares → length deeds ≡ length declared.queries
+  pub stays : stand_of c.phase ≡ Prepares → stand_of next ≡ Prepares
+
+-- a coordinator that has gained this, in its next phase
+abbrev passed_to : Coordinator → Gained → Phase → Coordinator
+passed_to c now next = record (with_gained c now) { turn = next_turn c; phase = next }
+
+-- what is known where a point is passed: the coordinator goes on at each server; after a query the point has the number of the last deed; and all
+-- queries have run where all have voted
+record IsOnward (sc : Scenario) (declared : Transaction) (P : ℕ → Pair) (c : Coordinator) (at : Point) (now : Gained) : Type 0 where
+  pub goes : (next : Phase) → MayGoOn declared c now.deeds next → (n : ℕ) → Next (site_of sc n declared) (P n) (with_asker (P n) (asker_up n (passed_to c now next)))
+  pub numbered : is_of_query at ≡ true → number_at at ≡ length now.deeds
+  pub most : length now.deeds ≤ length declared.queries
+  pub all : is_voted at ≡ true → length now.deeds ≡ length declared.queries
+
+-- a query that there is has a number up to that of the last
+number_within : (declared : Transaction) (number : ℕ) (asked : Query) → query_at declared number ≡ Some asked → number ≤ length declared.queries
+number_within declared zero asked e = omega arith
+number_within declared (suc before) asked e = let within = slice_get_within declared.queries before asked e in omega (arith, within)
+
+-- where no query has run since, the coordinator awaited no answer of a server to one
+waited_onward : (sc : Scenario) (declared : Transaction) (P : ℕ → Pair) (c : Coordinator) (at : Point) (instances : List Instance) → CoordinatorPaired sc declared P c → is_undecided c.phase ≡ true → (stand_of c.phase ≡ Asks → ⊥)
+    → (is_of_query at ≡ true → number_at at ≡ length c.deeds) → (is_voted at ≡ true → stand_of c.phase ≡ Prepares) → IsOnward sc declared P c at (gains_instances c instances)
+waited_onward sc declared P c at instances h undecided answered numbered voted =
+    let old : AskerFits (site_of sc 0 declared) (P 0) (asker_of 0 c) = of_some (AskerFits (site_of sc 0 declared) (P 0)) (P 0).asker (asker_of 0 c) (asker_there sc declared P c 0 h undecided) (h.fits 0).asker in
+    record {
+      goes = λ next may n.
+          stands_on sc declared P c (passed_to c (gains_instances c instances) next) (stand_of next) h undecided answered may.stays may.asks may.all
+          (λ k. undecided_asker k (passed_to c (gains_instances c instances) next) may.undecided) n;
+      numbered = numbered;
+      most = old.most;
+      all = λ e. old.all (voted e);
+    }
+
+probing_answered : (awaited : Phase) (at : Point) → IsProbing awaited at → stand_of awaited ≡ Asks → ⊥
+probing_answered _ _ (AfterQuery number) e = cc
+probing_answered _ _ AfterVotes e = cc
+
+probing_numbered : (awaited : Phase) (at : Point) (deeds : List Deed) → IsProbing awaited at → PhaseNumbered awaited deeds → is_of_query at ≡ true → number_at at ≡ length deeds
+probing_numbered _ _ deeds (AfterQuery number) n e = n
+probing_numbered _ _ deeds AfterVotes n e = absurd (cc)
+
+probing_voted : (awaited : Phase) (at : Point) → IsProbing awaited at → is_voted at ≡ true → stand_of awaited ≡ Prepares
+probing_voted _ _ (AfterQuery number) e = absurd (cc)
+probing_voted _ _ AfterVotes e = refl
+
+over_numbered : (over : Span) (deeds : List Deed) → SpanNumbered over deeds → is_of_query (coord.point_of over) ≡ true → number_at (coord.point_of over) ≡ length deeds
+over_numbered (span.Validate number) deeds n e = n
+over_numbered span.Commit deeds n e = absurd (cc)
+
+over_voted : (over : Span) → is_voted (coord.point_of over) ≡ true → stand_over over ≡ Prepares
+over_voted (span.Validate number) e = absurd (cc)
+over_voted span.Commit e = refl
+
+passed_onward : (sc : Scenario) (declared : Transaction) (P : ℕ → Pair) (c : Coordinator) (mail : Mail) (at : Point) (now : Gained) (rounds : ℕ) → IsValid sc → CoordinatorPaired sc declared P c
+    → AnswerPairs sc declared P mail.letter.from mail.letter.body → IsPassed sc c mail at now rounds → IsOnward sc declared P c at now
+passed_onward sc declared P c mail _ _ _ valid h m (QueryRan done server asked value proof k) =
+    let awaited : IsAwaited sc declared P c done asked server value = answer_awaited sc declared P c mail done server asked value proof h m (server_exists_in_pairs sc asked server valid k.server_is) k in
+    let number : done.query ≡ length c.deeds + 1 = subst (λ (p : Phase). PhaseNumbered p c.deeds) awaited.awaits h.numbered in
+    let longer : length (c.deeds ++ deed_of done.query asked value ∷ []) ≡ length c.deeds + 1 = length_push c.deeds (deed_of done.query asked value) in
+    let within : done.query ≤ length declared.queries = number_within declared done.query asked awaited.asked_is in
+    record {
+      goes = λ next may n.
+          subst (λ (o : Option Asker). Next (site_of sc n declared) (P n) (with_asker (P n) o)) (sym (undecided_asker n (passed_to c (gains_deed sc c server done asked value proof) next) may.undecided))
+          (ran_at_in_pairs sc declared P c done asked server value next h awaited
+          (record { asks = λ e. let left = may.asks e in omega (arith, longer, left); all = λ e. let whole = may.all e in omega (arith, longer, whole) }) n);
+      numbered = λ e. omega (arith, number, longer);
+      most = omega (arith, number, longer, within);
+      all = λ e. absurd (cc);
+    }
+passed_onward sc declared P c mail _ _ _ valid h m (ProofsRead reply at k none) =
+    waited_onward sc declared P c at _ h (passed_undecided sc c mail _ _ _ (ProofsRead reply at k none)) (probing_answered c.phase at k.probing) (probing_numbered c.phase at c.deeds k.probing h.numbered) (probing_voted c.phase at k.probing)
+passed_onward sc declared P c mail _ _ _ valid h m (AllTrue over round staple reading k) =
+    let stands = judged_stands c mail over round staple reading k.is_judged in
+    waited_onward sc declared P c (coord.point_of over) _ h (judged_undecided c mail over round staple reading k.is_judged) (λ asks. over_answered over (sym stands ∙ asks))
+    (over_numbered over c.deeds (judged_numbered c mail over round staple reading k.is_judged h.numbered)) (λ e. stands ∙ over_voted over e)
+passed_onward sc declared P c mail _ _ _ valid h m (AllVoted reply awaited server verdicts k left) =
+    let stands : stand_of c.phase ≡ Prepares = ap stand_of k.voting in
+    waited_onward sc declared P c point.Voted _ h (ap is_undecided k.voting) (λ asks. cc) (λ e. absurd (cc)) (λ e. stands)
+
+-- the next query has the number after those of the deeds
+next_low : (number : ℕ) → number ≤ 16 → next_number number ≡ number + 1
+next_low number low = omega (arith, low)
+
+next_numbered : (sc : Scenario) (declared : Transaction) (P : ℕ → Pair) (c : Coordinator) (at : Point) (now : Gained) → HaveHomes sc → CoordinatorPaired sc declared P c → IsOnward sc declared P c at now → is_of_query at ≡ true
+    → next_at at ≡ length now.deeds + 1
+next_numbered sc declared P c at now homes h on of_query =
+    let few : length declared.queries ≤ 16 = homes.few c.txn.0 declared h.declared_is in
+    let number : number_at at ≡ length now.deeds = on.numbered of_query in
+    let next : next_at at ≡ number_at at + 1 = next_low (number_at at) (let most = on.most in omega (arith, number, most, few)) in
+    omega (arith, number, next)
+
+-- where none is left, all have run
+all_asked : (sc : Scenario) (declared : Transaction) (P : ℕ → Pair) (c : Coordinator) (at : Point) (now : Gained) (wanted : Move) → HaveHomes sc → CoordinatorPaired sc declared P c → IsOnward sc declared P c at now → is_past at ≡ true
+    → is_of_query at ≡ true → is_beginning wanted ≡ true → is_ending wanted ≡ true → coord.move_after sc c at ≡ wanted → length now.deeds ≡ length declared.queries
+all_asked sc declared P c at now wanted homes h on past of_query begins ends moved_so =
+    let number : number_at at ≡ length now.deeds = on.numbered of_query in
+    let none : length declared.queries ≤ number_at at = none_left sc c at wanted declared homes past begins ends h.declared_is moved_so in
+    let most = on.most in
+    omega (arith, number, none, most)
+
+-- a further query is asked
+next_asks : (sc : Scenario) (declared : Transaction) (P : ℕ → Pair) (c : Coordinator) (mail : Mail) (at : Point) (now : Gained) (rounds : ℕ) (next : ServerId) → HaveHomes sc → CoordinatorPaired sc declared P c
+    → IsOnward sc declared P c at now → IsPassed sc c mail at now rounds → is_of_query at ≡ true → IsHome sc c (next_at at) next → RowAsks sc declared P (coord.sends_query sc (with_gained c now) (next_at at) None next)
+next_asks sc declared P c mail at now rounds next homes h on passed of_query home =
+    let numbered : next_at at ≡ length now.deeds + 1 = next_numbered sc declared P c at now homes h on of_query in
+    let place : next_at at ≡ suc (length now.deeds) = omega (arith, numbered) in
+    let asked_is : query_at declared (next_at at) ≡ Some home.asked = query_declared sc c declared (next_at at) home.asked h.declared_is home.asked_is in
+    let within : length now.deeds < length declared.queries = slice_get_within declared.queries (length now.deeds) home.asked (subst (λ (n : ℕ). query_at declared n ≡ Some home.asked) place asked_is) in
+    let event = on.goes (phase.Querying (next_at at) None) (record { undecided = refl; asks = λ e. within; all = λ e. absurd (cc); stays = λ e. absurd (query_stands sc c mail at now rounds passed of_query e) }) in
+    record {
+      next = event;
+      numbered = numbered;
+      requests = (
+        (
+          refl,
+          query_requested sc declared (with_asker (P next.0) (asker_up next.0 (passed_to c now (phase.Querying (next_at at) None)))) (with_gained c now) (next_turn c) (next_at at) None next h.declared_is (event next.0).fits refl numbered
+              (record { asked = home.asked; asked_is = home.asked_is; server_is = home.server_is }),
+        ),
+        tt,
+      );
+    }
+
+-- the authority is asked before it
+next_staple_asks : (sc : Scenario) (declared : Transaction) (P : ℕ → Pair) (c : Coordinator) (mail : Mail) (at : Point) (now : Gained) (rounds : ℕ) → HaveHomes sc → CoordinatorPaired sc declared P c
+    → IsOnward sc declared P c at now → IsPassed sc c mail at now rounds → is_of_query at ≡ true → RowAsks sc declared P (coord.asks_in (with_gained c now) (phase.Stapling (next_at at)))
+next_staple_asks sc declared P c mail at now rounds homes h on passed of_query =
+    record {
+      next = on.goes (phase.Stapling (next_at at)) (record { undecided = refl; asks = λ e. absurd (cc); all = λ e. absurd (cc); stays = λ e. absurd (query_stands sc c mail at now rounds passed of_query e) });
+      numbered = next_numbered sc declared P c at now homes h on of_query;
+      requests = (tt, tt);
+    }
+
+-- the queries so far are evaluated together
+validates_asks : (sc : Scenario) (declared : Transaction) (P : ℕ → Pair) (c : Coordinator) (mail : Mail) (at : Point) (now : Gained) (rounds : ℕ) → CoordinatorPaired sc declared P c → IsOnward sc declared P c at now
+    → IsPassed sc c mail at now rounds → is_of_query at ≡ true → RowAsks sc declared P (coord.asks (with_gained c now) (span.Validate (number_at at)) (coord.validation_round sc c (number_at at)))
+validates_asks sc declared P c mail at now rounds h on passed of_query =
+    record {
+      next = on.goes (phase.Asking (span.Validate (number_at at)) (coord.validation_round sc c (number_at at)))
+          (record { undecided = refl; asks = λ e. absurd (cc); all = λ e. absurd (cc); stays = λ e. absurd (query_stands sc c mail at now rounds passed of_query e) });
+      numbered = on.numbered of_query;
+      requests = (tt, tt);
+    }
+
+-- the master is asked for the proofs so far
+proofs_asks : (sc : Scenario) (declared : Transaction) (P : ℕ → Pair) (c : Coordinator) (mail : Mail) (at : Point) (now : Gained) (rounds : ℕ) → CoordinatorPaired sc declared P c → IsOnward sc declared P c at now
+    → IsPassed sc c mail at now rounds → is_probed at ≡ true → RowAsks sc declared P (coord.probes (with_gained c now) (coord.probing_at at))
+proofs_asks sc declared P c mail (point.Ran number) now rounds h on passed e =
+    record {
+      next = on.goes (phase.Probing number) (record { undecided = refl; asks = λ f. absurd (cc); all = λ f. absurd (cc); stays = λ f. absurd (query_stands sc c mail (point.Ran number) now rounds passed refl f) });
+      numbered = on.numbered refl;
+      requests = (tt, tt);
+    }
+proofs_asks sc declared P c mail point.Voted now rounds h on passed e =
+    record { next = on.goes phase.VoteProbing (record { undecided = refl; asks = λ f. absurd (cc); all = λ f. on.all refl; stays = λ f. refl }); numbered = tt; requests = (tt, tt) }
+proofs_asks sc declared P c mail (point.Begun number) now rounds h on passed e = absurd (cc)
+proofs_asks sc declared P c mail (point.Stapled number) now rounds h on passed e = absurd (cc)
+proofs_asks sc declared P c mail (point.Read number) now rounds h on passed e = absurd (cc)
+proofs_asks sc declared P c mail (point.Validated number) now rounds h on passed e = absurd (cc)
+proofs_asks sc declared P c mail point.VoteRead now rounds h on passed e = absurd (cc)
+
+-- all queries have run: the authority is asked before the rounds at commit
+last_asks : (sc : Scenario) (declared : Transaction) (P : ℕ → Pair) (c : Coordinator) (at : Point) (now : Gained) → IsOnward sc declared P c at now → length now.deeds ≡ length declared.queries
+    → RowAsks sc declared P (coord.asks (with_gained c now) span.Commit (coord.commit_round sc c))
+last_asks sc declared P c at now on all =
+    record { next = on.goes (phase.Asking span.Commit (coord.commit_round sc c)) (record { undecided = refl; asks = λ e. absurd (cc); all = λ e. all; stays = λ e. refl }); numbered = tt; requests = (tt, tt) }
+
+-- a query among these that is at the server
+here_among : (sc : Scenario) (at : ℕ) (queries : List Query) → list_any (is_at_server sc at) queries ≡ true → (place : ℕ) × (option_map_or (is_at_server sc at) (slice_get queries place) false ≡ true)
+here_among sc at [] e = absurd (cc)
+here_among sc at (query ∷ queries) e = by_first (is_at_server sc at query) refl (here_among sc at queries) e
+  where
+    by_first : (b : Bool) → is_at_server sc at query ≡ b → (list_any (is_at_server sc at) queries ≡ true → (place : ℕ) × (option_map_or (is_at_server sc at) (slice_get queries place) false ≡ true))
+        → (b || list_any (is_at_server sc at) queries) ≡ true → (place : ℕ) × (option_map_or (is_at_server sc at) (slice_get (query ∷ queries) place) false ≡ true)
+    by_first true first later some = (zero, first)
+    by_first false first later some = let found = later some in (suc found.0, found.1)
+
+-- a coordinator that prepares has kept the epoch of each server with an item of its transaction
+item_kept : (sc : Scenario) (declared : Transaction) (Q : ℕ → Pair) (c next : Coordinator) (turn : ℕ) (at : ServerId) → slice_get sc.txns c.txn.0 ≡ Some declared → IsRequesting sc declared Q c next turn → stand_of next.phase ≡ Prepares
+    → HoldsItem sc c.txn at → KeepsEpoch c at
+item_kept sc declared Q c next turn at declared_is k stand item =
+    let found = here_among sc at.0 declared.queries (sym (ap (λ (d : Option Transaction). option_map_or (has_item sc at) d false) declared_is) ∙ item) in
+    let site = site_of sc at.0 declared in
+    let fits : AskerFits site (Q at.0) (asker_of at.0 next) = of_some (AskerFits site (Q at.0)) (Q at.0).asker (asker_of at.0 next) (k.is at.0) (k.fits at.0).asker in
+    let epoch = late_epoch site (Q at.0) (asker_of at.0 next) (suc found.0) fits stand found.1 in
+    ap is_some (ap (λ (epochs : List (Option ℕ)). option_flatten (slice_get epochs at.0)) k.epochs ∙ epoch.1)
+
+-- or each query was proved as it ran: all servers are asked to prepare without an evaluation
+votes_asks : (sc : Scenario) (declared : Transaction) (P : ℕ → Pair) (c : Coordinator) (at : Point) (now : Gained) → CoordinatorPaired sc declared P c → IsOnward sc declared P c at now → length now.deeds ≡ length declared.queries
+    → RowAsks sc declared P (coord.asks_votes (with_gained c now))
+votes_asks sc declared P c at now h on all =
+    let now_is = with_gained c now in
+    let next = passed_to c now (phase.Voting c.servers) in
+    let Q : ℕ → Pair = λ n. with_asker (P n) (asker_up n next) in
+    let event = on.goes (phase.Voting c.servers) (record { undecided = refl; asks = λ e. absurd (cc); all = λ e. all; stays = λ e. refl }) in
+    let requesting : IsRequesting sc declared Q now_is next (next_turn c) = record { own = refl; epochs = refl; turn_is = refl; is = λ n. refl; fits = λ n. (event n).fits } in
+    let items : HaveItems sc c.txn c.servers = subst (HaveItems sc c.txn) (sym h.servers) (servers_at_have_items sc c.txn) in
+    record {
+      next = event;
+      numbered = tt;
+      requests = vote_letters_fit sc declared Q now_is next (next_turn c) c.servers requesting refl
+          (each_as (HoldsItem sc c.txn) (KeepsEpoch now_is) (λ server item. item_kept sc declared Q now_is next (next_turn c) server h.declared_is requesting refl item) c.servers items);
+    }
+
+-- ---- every row
 
 -- every row of a coordinator on receipt of a mail
 pub coordinator_row_asks : (sc : Scenario) (declared : Transaction) (P : ℕ → Pair) (c : Coordinator) (mail : Mail) → IsValid sc → HaveHomes sc → CoordinatorPaired sc declared P c
@@ -533,19 +739,26 @@ coordinator_row_asks sc declared P c mail valid homes h m =
       ignored = ignores_asks sc declared P c h;
       stapled = λ tell query server k home.
           query_asks sc declared P c query (Some (coord.staple_of tell mail.sent)) server h (stapling_free sc declared P c query h k.stapling) (home_is sc c query server home);
-      sends_query = λ query now next passed moves home. sent query now next passed home;
-      asks_staple = λ query now passed moves. asked_first query now passed;
-      commit_rounds = λ query now passed moves. brought query now passed moves;
-      told = λ tell round k. prepares_asks sc declared P c round (coord.staple_of tell mail.sent) h k.asking;
-      counted = λ reply round staple server verdicts y. record {
-        next = λ at. still_asks sc declared P c (record c { phase = phase.Checking span.Commit (after_reply round server verdicts) staple }) at h (counted_asker at c round (after_reply round server verdicts) staple y.checking);
+      sends_query = λ at now rounds next passed moved_so home.
+          next_asks sc declared P c mail at now rounds next homes h (onward at now rounds passed) passed (begins_of_query sc c at move.SendQuery (passed_past sc c mail at now rounds passed) refl moved_so) (home_is sc c (next_at at) next home);
+      asks_staple = λ at now rounds passed moved_so.
+          next_staple_asks sc declared P c mail at now rounds homes h (onward at now rounds passed) passed (begins_of_query sc c at move.Ask (passed_past sc c mail at now rounds passed) refl moved_so);
+      probes_proofs = λ at now rounds passed moved_so. proofs_asks sc declared P c mail at now rounds h (onward at now rounds passed) passed (probed_there sc c at moved_so);
+      validates = λ at now rounds passed moved_so.
+          validates_asks sc declared P c mail at now rounds h (onward at now rounds passed) passed (ran_of_query at (validated_ran sc c at moved_so));
+      commit_rounds = λ at now rounds passed moved_so. last_asks sc declared P c at now (onward at now rounds passed) (whole at now rounds move.CommitRounds passed refl refl moved_so);
+      asks_votes = λ at now rounds passed moved_so. votes_asks sc declared P c at now h (onward at now rounds passed) (whole at now rounds move.Votes passed refl refl moved_so);
+      told = λ tell over round k. checks_asks sc declared P c over round (coord.staple_of tell mail.sent) h k.asking;
+      counted = λ over round staple server verdicts y. counts_asks sc declared P c over round (after_reply round server verdicts) staple h (reply_checking c mail over round staple server verdicts y);
+      probed = λ over round staple server verdicts y replied reads. probes_asks sc declared P c over round (after_reply round server verdicts) staple h (reply_checking c mail over round staple server verdicts y);
+      voted = λ reply awaited server verdicts y. record {
+        next = λ at. still_asks sc declared P c (coord.voting c (coord.without awaited server)) at h (same_asker at c (phase.Voting (coord.without awaited server)) (ap is_undecided y.voting) refl (sym (ap stand_of y.voting)));
         numbered = tt;
         requests = tt;
       };
-      probed = λ reply round staple server verdicts y whole reads. probes_asks sc declared P c round (after_reply round server verdicts) staple h y.checking;
-      decides = λ instances rounds passed. ends_asks sc declared P c (coord.commits (with_gained c (gains_instances c instances)) rounds).state outcome.Commit c.servers h refl tt;
+      decides = λ at now rounds passed moved_so. ends_asks sc declared P c (coord.commits (with_gained c now) rounds).state outcome.Commit c.servers h refl tt;
       aborted = λ why ended. ends_asks sc declared P c (coord.aborts c why).state outcome.Abort c.servers h refl tt;
-      updated = λ round staple reading named j e. updated_asks sc declared P c (after_judgement round reading) h (judging c mail round staple reading j);
+      updated = λ over round staple reading named j e. updated_asks sc declared P c mail over round (after_judgement round reading) staple reading h j;
       acknowledged = λ ack ended awaited server a. record {
         next = λ at. still_asks sc declared P c (record c { phase = phase.Ending ended (coord.without awaited server) }) at h (sym (ap (λ (p : Phase). if is_undecided p then Some (asker_of at c) else None) a.ending));
         numbered = tt;
@@ -558,22 +771,15 @@ coordinator_row_asks sc declared P c mail valid homes h m =
       };
     })
   where
-    awaited : (done : DoneReply) (server : ServerId) (asked : Query) (value : ℤ) (proof : Option Verdict) → IsRanAnswer sc c mail done server asked value proof → IsAwaited sc declared P c done asked server value
-    awaited done server asked value proof k = answer_awaited sc declared P c mail done server asked value proof h m (server_exists_in_pairs sc asked server valid k.server_is) k
+    onward : (at : Point) (now : Gained) (rounds : ℕ) → IsPassed sc c mail at now rounds → IsOnward sc declared P c at now
+    onward at now rounds passed = passed_onward sc declared P c mail at now rounds valid h m passed
 
-    sent : (query : ℕ) (now : Gained) (next : ServerId) → IsPassed sc c mail (point.Ran query) now → coord.home_of sc c (next_number query) ≡ Some next
-        → RowAsks sc declared P (coord.sends_query sc (with_gained c now) (next_number query) None next)
-    sent _ _ next (QueryRan done server asked value proof k) home =
-        next_asks sc declared P c done asked server next value proof h (awaited done server asked value proof k) (next_is sc c done.query asked homes k.asked_is) (home_is sc c (next_number done.query) next home)
-
-    asked_first : (query : ℕ) (now : Gained) → IsPassed sc c mail (point.Ran query) now → RowAsks sc declared P (coord.asks_in (with_gained c now) (phase.Stapling (next_number query)))
-    asked_first _ _ (QueryRan done server asked value proof k) =
-        next_staple_asks sc declared P c done asked server value proof h (awaited done server asked value proof k) (next_is sc c done.query asked homes k.asked_is)
-
-    brought : (query : ℕ) (now : Gained) → IsPassed sc c mail (point.Ran query) now → coord.move_after sc c query ≡ move.CommitRounds
-        → RowAsks sc declared P (coord.asks (with_gained c now) span.Commit (coord.commit_round sc c))
-    brought _ _ (QueryRan done server asked value proof k) moves =
-        last_asks sc declared P c done asked server value proof h (awaited done server asked value proof k) (no_query sc c declared (done.query + 1) h.declared_is (last_is sc c done.query asked homes k.asked_is moves))
+    -- where no query is left, all have run
+    whole : (at : Point) (now : Gained) (rounds : ℕ) (wanted : Move) → IsPassed sc c mail at now rounds → is_beginning wanted ≡ true → is_ending wanted ≡ true → coord.move_after sc c at ≡ wanted
+        → length now.deeds ≡ length declared.queries
+    whole at now rounds wanted passed begins_so ends_so moved_so =
+        let past = passed_past sc c mail at now rounds passed in
+        all_asked sc declared P c at now wanted homes h (onward at now rounds passed) past (begins_of_query sc c at wanted past begins_so moved_so) begins_so ends_so moved_so
 
 -- ---- timers
 
@@ -585,14 +791,25 @@ query_again_fits sc declared P c number staple server h querying home =
     ∙ ap (λ (s : Stand). Some (record { stand = s; turn = c.turn; epoch = option_flatten (slice_get c.epochs server.0); deeds = c.deeds })) (ap stand_of querying) in
     query_requested sc declared (P server.0) c c.turn number staple server h.declared_is (h.fits server.0) is (subst (λ (p : Phase). PhaseNumbered p c.deeds) querying h.numbered) (home_is sc c number server home)
 
--- the awaited servers are asked to prepare again
-prepares_again_ask : (sc : Scenario) (declared : Transaction) (P : ℕ → Pair) (c : Coordinator) (round : Round) (staple : Staple) → CoordinatorPaired sc declared P c → c.phase ≡ phase.Checking span.Commit round staple
-    → Each (λ (letter : Letter). AskPairs sc declared c.txn P letter.to letter.body) (map (coord.prepare_letter c c.turn round staple) (missing_in round.targets))
-prepares_again_ask sc declared P c round staple h checking =
+-- a coordinator that requests again, as it is
+asks_again : (sc : Scenario) (declared : Transaction) (P : ℕ → Pair) (c : Coordinator) → CoordinatorPaired sc declared P c → is_undecided c.phase ≡ true → IsRequesting sc declared P c c c.turn
+asks_again sc declared P c h undecided = record { own = refl; epochs = refl; turn_is = refl; is = λ at. asker_there sc declared P c at h undecided; fits = h.fits }
+
+-- the awaited servers of a round are asked again
+checks_again_ask : (sc : Scenario) (declared : Transaction) (P : ℕ → Pair) (c : Coordinator) (over : Span) (round : Round) (staple : Staple) → CoordinatorPaired sc declared P c → c.phase ≡ phase.Checking over round staple
+    → Each (λ (letter : Letter). AskPairs sc declared c.txn P letter.to letter.body) (coord.round_letters c over c.turn round staple)
+checks_again_ask sc declared P c over round staple h checking =
     let undecided : is_undecided c.phase ≡ true = ap is_undecided checking in
     let kept : EachServer (KeepsEpoch c) round.targets = subst (PhaseKept (KeepsEpoch c)) checking (h.keeps undecided) in
-    prepare_fits_in_pairs sc declared P c c c.turn round staple (missing_in round.targets) refl (λ at. asker_there sc declared P c at h undecided) h.fits (ap stand_of checking) refl
+    round_letters_fit sc declared P c c over c.turn round staple (missing_in round.targets) (asks_again sc declared P c h undecided) (ap stand_of checking) (subst (λ (p : Phase). PhaseNumbered p c.deeds) checking h.numbered)
     (each_missing (KeepsEpoch c) round.targets kept) (subst (PhaseNames sc declared) checking h.names)
+
+-- and those whose votes are awaited
+votes_again_ask : (sc : Scenario) (declared : Transaction) (P : ℕ → Pair) (c : Coordinator) (awaited : List ServerId) → CoordinatorPaired sc declared P c → c.phase ≡ phase.Voting awaited
+    → Each (λ (letter : Letter). AskPairs sc declared c.txn P letter.to letter.body) (coord.vote_letters c c.turn awaited)
+votes_again_ask sc declared P c awaited h voting =
+    let undecided : is_undecided c.phase ≡ true = ap is_undecided voting in
+    vote_letters_fit sc declared P c c c.turn awaited (asks_again sc declared P c h undecided) (ap stand_of voting) (subst (PhaseKept (KeepsEpoch c)) voting (h.keeps undecided))
 
 -- what a timer sends again, at each server as it is
 pub repeats_ask : (sc : Scenario) (declared : Transaction) (P : ℕ → Pair) (c : Coordinator) → CoordinatorPaired sc declared P c
@@ -605,6 +822,8 @@ repeats_ask sc declared P c h =
       queried = λ number staple server querying home. ((refl, query_again_fits sc declared P c number staple server h querying home), tt);
       asked = λ over round asking. (tt, tt);
       read = λ over round reading. (tt, tt);
-      prepared = λ round staple checking. prepares_again_ask sc declared P c round staple h checking;
+      probed = λ at probing. (tt, tt);
+      prepared = λ over round staple checking. checks_again_ask sc declared P c over round staple h checking;
+      voted = λ awaited voting. votes_again_ask sc declared P c awaited h voting;
       ordered = λ ended awaited ending. orders_ask sc declared c.txn P c ended awaited;
     })

@@ -170,6 +170,10 @@ Names s want = (number : ℕ) (admin : AdminId) → is_own_query s.scenario s.tx
 abbrev pub NamesUpto : Site → ℕ → List (AdminId × Version) → Type 0
 NamesUpto s last want = (number : ℕ) (admin : AdminId) → number ≤ last → is_own_query s.scenario s.txn number (server_number s.at) admin ≡ true → is_some (wanted_of want admin) ≡ true
 
+-- so it is where any version is wanted
+abbrev pub NamesIfAny : Site → ℕ → List (AdminId × Version) → Type 0
+NamesIfAny s last want = (is_empty want ≡ true) ⊎ NamesUpto s last want
+
 -- a request to prepare: there are queries at the server, and all of them have run in the epoch that it names; where it
 -- wants versions, it names all administrators
 pub record PrepareFits (s : Site) (p : Pair) (r : PrepareRequest) : Type 0 where
@@ -195,12 +199,15 @@ pub record ProofLive (turn : ℕ) (P : Type 0) (a : Asker) : Type 0 where
   pub pauses : turn ≡ a.turn → a.stand ≡ Pauses
   pub now : turn ≡ a.turn → P
 
--- a request to validate names the epoch that is kept
-abbrev pub ValidateLive : ValidateRequest → Asker → Type 0
-ValidateLive v a = ProofLive v.turn (a.epoch ≡ Some v.epoch) a
+-- a request to validate names the epoch that is kept; where it wants versions, it names all administrators of the queries at the server
+-- that have run so far
+abbrev pub ValidateLive : Site → ValidateRequest → Asker → Type 0
+ValidateLive s v a = ProofLive v.turn ((a.epoch ≡ Some v.epoch) × NamesIfAny s (length a.deeds) v.want) a
 
-abbrev pub ValidateFits : Pair → ValidateRequest → Type 0
-ValidateFits p v = IfSome p.asker (ValidateLive v)
+-- and whenever it comes, what was begun in that epoch is there or lost for ever
+pub record ValidateFits (s : Site) (p : Pair) (v : ValidateRequest) : Type 0 where
+  pub told : Tells p v.epoch (λ (deeds : List Deed). Unit {0})
+  pub live : IfSome p.asker (ValidateLive s v)
 
 -- the answer has verdicts on the queries at the server that have run so far, or it says that what was done is lost
 abbrev pub VerdictsLive : Site → VerdictsReply → Asker → Type 0

@@ -10,7 +10,7 @@ use Rattle.tp_types.specs.Each.{Each}
 use Rattle.tp_coord.specs.Sums.{asked_value}
 use Rattle.tp_types.proofs.EachLemmas.{each_as}
 use Rattle.tp_runs.proofs.basics.Phases.{Pauses, Prepares}
-use Rattle.tp_runs.proofs.pairs.Fits.{AnswerFits, AnsweredFits, AreUpto, Covers, DoneFits, EntryFits, Fits, IsAsked, Live, PrepareFits, PrepareLive, ProofLive, QueryFits, QueryLive, RanFits, RanLive, Tells, ValidateFits, ValidateLive, VerdictsFits, VerdictsLive, Waits}
+use Rattle.tp_runs.proofs.pairs.Fits.{AnswerFits, AnsweredFits, AreUpto, Covers, DoneFits, EntryFits, Fits, IsAsked, Live, NamesIfAny, PrepareFits, PrepareLive, ProofLive, QueryFits, QueryLive, RanFits, RanLive, Tells, ValidateFits, ValidateLive, VerdictsFits, VerdictsLive, Waits}
 use Rattle.tp_runs.proofs.pairs.Grows.{Grows, covers_more, grows_both, loses_grows, tells_grown}
 use Rattle.tp_runs.proofs.basics.Found.{some_as}
 use Rattle.tp_runs.proofs.pairs.Loses.{Loses, loses_same}
@@ -201,9 +201,17 @@ proof_live turn P Q a b later step h = record { past = omega (arith, before, on)
     still same = later.pauses (h.pauses (present same)) (omega (arith, before, on, same))
 
 -- a request to validate fits what follows
-pub validate_follows : (p q : Pair) (v : ValidateRequest) → Follows p q → ValidateFits p v → ValidateFits q v
-validate_follows p q v f h =
-    some_onward (ValidateLive v) p.asker q.asker (λ a b later live. proof_live v.turn (a.epoch ≡ Some v.epoch) (b.epoch ≡ Some v.epoch) a b later (λ same kept. later.epoch v.epoch kept) live) f.onward h
+pub validate_follows : (s : Site) (p q : Pair) (v : ValidateRequest) → Follows p q → ValidateFits s p v → ValidateFits s q v
+validate_follows s p q v f h =
+    record {
+      told = tells_grown p q v.epoch (λ (deeds : List Deed). Unit {0}) (λ deeds more was. tt) f.grows h.told;
+      live = some_onward (ValidateLive s v) p.asker q.asker stays f.onward h.live;
+    }
+  where
+    stays : (a b : Asker) → Later a b → ValidateLive s v a → ValidateLive s v b
+    stays a b later live =
+        proof_live v.turn ((a.epoch ≡ Some v.epoch) × NamesIfAny s (length a.deeds) v.want) ((b.epoch ≡ Some v.epoch) × NamesIfAny s (length b.deeds) v.want) a b later
+        (λ same now. (later.epoch v.epoch now.0, subst (λ (deeds : List Deed). NamesIfAny s (length deeds) v.want) (sym same) now.1)) live
 
 -- and so does the answer to it
 pub verdicts_follow : (s : Site) (p q : Pair) (reply : VerdictsReply) → Follows p q → VerdictsFits s p reply → VerdictsFits s q reply

@@ -7,7 +7,7 @@ use Rattle.tp_coord.specs.Sums.{asked_value}
 use Rattle.tp_server.specs.declared.server.Entry.{Entry}
 use Rattle.tp_model.specs.Limits.{is_empty}
 use Rattle.tp_runs.proofs.basics.Phases.{Asks, Pauses, Prepares}
-use Rattle.tp_runs.proofs.pairs.Fits.{AreUpto, AskerFits, Covers, DoneFits, EntryFits, Fits, IsThere, Matches, Names, OneMore, Pairing, PrepareFits, PrepareLive, QueryFits, QueryLive, Tells, ValidateFits, ValidateLive, VerdictsFits, VerdictsLive}
+use Rattle.tp_runs.proofs.pairs.Fits.{AreUpto, AskerFits, Covers, DoneFits, EntryFits, Fits, IsThere, Matches, Names, NamesIfAny, OneMore, Pairing, PrepareFits, PrepareLive, QueryFits, QueryLive, Tells, ValidateFits, ValidateLive, VerdictsFits, VerdictsLive}
 use Rattle.tp_runs.proofs.basics.Verdicts.{numbers_of}
 use Rattle.tp_runs.proofs.pairs.Answered.{there_matches}
 use Rattle.tp_runs.proofs.pairs.Grows.{covers_more}
@@ -107,8 +107,14 @@ prepares s p a r is h stand epoch names =
     }
 
 -- a request to validate that names the epoch that is kept, the first time or again
-pub validates : (p : Pair) (a : Asker) (v : ValidateRequest) → p.asker ≡ Some a → a.stand ≡ Pauses → v.turn ≡ a.turn → a.epoch ≡ Some v.epoch → ValidateFits p v
-validates p a v is stand turn epoch = to_some (ValidateLive v) p.asker a is (record { past = omega (arith, turn); pauses = λ same. stand; now = λ same. epoch })
+pub validates : (s : Site) (p : Pair) (a : Asker) (v : ValidateRequest) → p.asker ≡ Some a → Fits s p → a.stand ≡ Pauses → v.turn ≡ a.turn → a.epoch ≡ Some v.epoch → NamesIfAny s (length a.deeds) v.want → ValidateFits s p v
+validates s p a v is h stand turn epoch names =
+    let old : AskerFits s p a = of_some (AskerFits s p) p.asker a is h.asker in
+    let covered : Tells p v.epoch (Covers s (length a.deeds)) = of_some (λ (e : ℕ). Tells p e (Covers s (length a.deeds))) a.epoch v.epoch epoch (kept_covers s p a a.epoch old old.pairing) in
+    record {
+      told = tells_as p v.epoch (Covers s (length a.deeds)) (λ (deeds : List Deed). Unit {0}) (λ deeds covers. tt) covered;
+      live = to_some (ValidateLive s v) p.asker a is (record { past = omega (arith, turn); pauses = λ same. stand; now = λ same. (epoch, names) });
+    }
 
 -- ---- answers
 
@@ -116,26 +122,41 @@ validates p a v is stand turn epoch = to_some (ValidateLive v) p.asker a is (rec
 pub says : (s : Site) (p : Pair) (entry : Entry) (number : ℕ) (done : DoneReply) → p.entry ≡ Some entry → Fits s p → answer_in number entry.answers ≡ Some done → DoneFits s p done
 says s p entry number done is h found = answer_each (DoneFits s p) number entry.answers done (of_some (EntryFits s p) p.entry entry is h.entry).answers found
 
--- verdicts on what the server has in the epoch that is kept, while the coordinator pauses: that is what was got of it
-validated : (s : Site) (p : Pair) (a : Asker) (entry : Entry) (verdicts : List Verdict) → p.asker ≡ Some a → IsThere p entry.epoch entry.deeds → Fits s p → a.stand ≡ Pauses → a.epoch ≡ Some entry.epoch
-    → numbers_of verdicts ≡ numbers entry.deeds → AreUpto s (length a.deeds) verdicts
-validated s p a entry verdicts is found h pauses epoch on =
+-- what the server has in the epoch that is kept, while the coordinator pauses, is what was got of it
+exact_deeds : (s : Site) (p : Pair) (a : Asker) (entry : Entry) → p.asker ≡ Some a → IsThere p entry.epoch entry.deeds → Fits s p → a.stand ≡ Pauses → a.epoch ≡ Some entry.epoch → numbers entry.deeds ≡ upto s (length a.deeds)
+exact_deeds s p a entry is found h pauses epoch =
     let old : AskerFits s p a = of_some (AskerFits s p) p.asker a is h.asker in
     let matches : Matches s a entry.deeds = there_matches s p a a.epoch entry.epoch entry.deeds old.pairing (inr epoch) found in
     let exact : entry.deeds ≡ got s a.deeds = matched s a entry.deeds (λ asks. cc) matches in
-    on ∙ (ap numbers exact ∙ old.numbers_are)
+    ap numbers exact ∙ old.numbers_are
+
+-- so an entry that a request to validate of the present turn comes to has deeds of just the queries there so far
+pub validated_deeds : (s : Site) (p : Pair) (a : Asker) (entry : Entry) (v : ValidateRequest) → p.up ≡ true → p.entry ≡ Some entry → p.asker ≡ Some a → Fits s p → ValidateFits s p v → entry.epoch ≡ v.epoch → v.turn ≡ a.turn
+    → numbers entry.deeds ≡ upto s (length a.deeds)
+validated_deeds s p a entry v up is there h asked epoch same =
+    let found : IsThere p entry.epoch entry.deeds = held_up p.up p.entry p.prepared up ∙ ap (option_map entry_held) is in
+    let live : ValidateLive s v a = of_some (ValidateLive s v) p.asker a there asked.live in
+    exact_deeds s p a entry there found h (live.pauses same) ((live.now same).0 ∙ ap Some (sym epoch))
 
 -- the answer to a request to validate
-pub proves : (s : Site) (p : Pair) (entry : Entry) (v : ValidateRequest) (reply : VerdictsReply) (verdicts : List Verdict) → p.up ≡ true → p.entry ≡ Some entry → Fits s p → ValidateFits p v → entry.epoch ≡ v.epoch
+pub proves : (s : Site) (p : Pair) (entry : Entry) (v : ValidateRequest) (reply : VerdictsReply) (verdicts : List Verdict) → p.up ≡ true → p.entry ≡ Some entry → Fits s p → ValidateFits s p v → entry.epoch ≡ v.epoch
     → reply.turn ≡ v.turn → reply.verdicts ≡ Some verdicts → numbers_of verdicts ≡ numbers entry.deeds → VerdictsFits s p reply
 proves s p entry v reply verdicts up is h asked epoch turn said on =
-    let found : IsThere p entry.epoch entry.deeds = held_up p.up p.entry p.prepared up ∙ ap (option_map entry_held) is in
-    some_as (ValidateLive v) (VerdictsLive s reply) p.asker
+    some_as (ValidateLive s v) (VerdictsLive s reply) p.asker
     (λ a there live. record {
       past = let past = live.past in omega (arith, past, turn);
       pauses = λ same. live.pauses (sym turn ∙ same);
       now = λ same.
-          let kept : a.epoch ≡ Some entry.epoch = live.now (sym turn ∙ same) ∙ ap Some (sym epoch) in
-          let all : AreUpto s (length a.deeds) verdicts = validated s p a entry verdicts there found h (live.pauses (sym turn ∙ same)) kept on in
+          let all : AreUpto s (length a.deeds) verdicts = on ∙ validated_deeds s p a entry v up is there h asked epoch (sym turn ∙ same) in
           subst (λ (proved : Option (List Verdict)). IfSome proved (AreUpto s (length a.deeds))) (sym said) all;
-    }) asked
+    }) asked.live
+
+-- or the answer that what was done is lost
+pub loses : (s : Site) (p : Pair) (v : ValidateRequest) (reply : VerdictsReply) → ValidateFits s p v → reply.turn ≡ v.turn → reply.verdicts ≡ None → VerdictsFits s p reply
+loses s p v reply asked turn said =
+    some_as (ValidateLive s v) (VerdictsLive s reply) p.asker
+    (λ a there live. record {
+      past = let past = live.past in omega (arith, past, turn);
+      pauses = λ same. live.pauses (sym turn ∙ same);
+      now = λ same. subst (λ (proved : Option (List Verdict)). IfSome proved (AreUpto s (length a.deeds))) (sym said) tt;
+    }) asked.live

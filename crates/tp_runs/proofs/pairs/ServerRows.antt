@@ -1,6 +1,6 @@
 -- Deeds and epochs, the server's rows: each is an event at its own transaction, and nothing at the others.
 use Rattle.std.specs.Option.{option_flatten, option_map_or, option_or}
-use Rattle.std.proofs.Common.{Bool, IfSome, List, None, Option, Some, [], ap, arith, false, find, if◌then◌else◌, inr, is_some, length, not, option_and_then, refl, slice_get, slice_set, subst, sym, true, ℕ, ℤ, ⊎_elim, ◌++◌, ◌<◌, ◌==◌, ◌∙◌, ◌∷◌, ◌≡◌, ◌⊎◌}
+use Rattle.std.proofs.Common.{Bool, IfSome, List, None, Option, Some, [], ap, arith, false, find, if◌then◌else◌, inl, inr, is_some, length, not, option_and_then, refl, slice_get, slice_set, subst, sym, true, ℕ, ℤ, ⊎_elim, ◌++◌, ◌<◌, ◌==◌, ◌∙◌, ◌∷◌, ◌≡◌, ◌⊎◌}
 use Rattle.std.proofs.lemmas.Bool.{eqb-true, not-false}
 use Rattle.std.proofs.lemmas.List.{length-set}
 use Rattle.std.proofs.lemmas.Option.{same_Some}
@@ -14,7 +14,7 @@ use Rattle.tp_model.specs.Words.answer
 use Rattle.tp_model.specs.Words.body
 use Rattle.tp_model.specs.Words.log
 use Rattle.tp_model.specs.Words.query
-use Rattle.tp_model.specs.Words.{Answer, Body, DecideRequest, Deed, DoneReply, Letter, Mail, No, PrepareRequest, Prepared, PushNotice, Query, QueryRequest, Record, Scenario, ServerId, Settled, Transaction, TxnId, Verdict}
+use Rattle.tp_model.specs.Words.{Answer, Body, DecideRequest, Deed, DoneReply, Letter, Mail, No, PrepareRequest, Prepared, PushNotice, Query, QueryRequest, Record, Scenario, ServerId, Settled, Transaction, TxnId, ValidateRequest, Verdict}
 use Rattle.tp_runs.proofs.agreement.Server.{ServerAgrees, open_unsettled, prepared_now}
 use Rattle.tp_runs.proofs.basics.Ids.{same_txn_from, same_txn_is}
 use Rattle.tp_types.proofs.EachLemmas.{each_as, each_found, each_more, none_if_not_some, set_here}
@@ -30,14 +30,15 @@ use Rattle.tp_runs.proofs.pairs.Entries.{begun, changed, denies, keeps, makes, w
 use Rattle.tp_runs.proofs.pairs.Fits.{AnswerFits, AnsweredFits, AreNoneOrAll, DoneFits, EntryFits, Fits, Live, PrepareFits, QueryFits, QueryLive, ValidateFits, VerdictsFits, VoteFits, Waits}
 use Rattle.tp_runs.proofs.pairs.Follows.{Next, done_follows, next_both, next_same, query_follows, verdicts_follow}
 use Rattle.tp_runs.proofs.basics.Found.{answer_in, of_some, some_as}
+use Rattle.tp_runs.proofs.pairs.Letters.{loses, proves}
 use Rattle.tp_runs.proofs.pairs.Pair.{Asker, Pair}
 use Rattle.tp_runs.proofs.pairs.Ran.{IsAnswer, ran, runs}
 use Rattle.tp_runs.proofs.pairs.Site.{Site}
 use Rattle.tp_runs.proofs.pairs.Votes as vote
-use Rattle.tp_runs.proofs.pairs.Votes.{IsVoteOn, forces, with_ballot}
+use Rattle.tp_runs.proofs.pairs.Votes.{AreNoneOrOn, IsVoteOn, forces, with_ballot}
 use Rattle.tp_runs.proofs.basics.Folds.{set_elsewhere}
 use Rattle.tp_runs.proofs.deeds.Runs.{deed_asked, deed_at}
-use Rattle.tp_server.proofs.Rows.{AreRightWaits, IsAsking, IsFirstHere, IsFurther, IsResumed, resuming, server_by, unwaiting}
+use Rattle.tp_server.proofs.Rows.{AreRightWaits, IsAsking, IsEvaluated, IsFirstHere, IsFurther, IsResumed, Stapled, Unstapled, resuming, server_by, unwaiting}
 use Rattle.tp_recover.specs.Log.{epoch_in, preparation_in, prepared_in, settled_in, settlement_in, voted_in, while_unsettled}
 use Rattle.tp_machine.specs.Machine.{log_with}
 use Rattle.tp_model.specs.Deeds.{deed_of}
@@ -47,7 +48,7 @@ use Rattle.tp_coord.specs.Sums.{clamped_sum, registers_after, sum_asked}
 use Rattle.tp_server.specs.declared.server.Ballot.{Ballot}
 use Rattle.tp_server.specs.declared.server.Entry.{Entry}
 use Rattle.tp_server.specs.Row as server
-use Rattle.tp_server.specs.Row.{ack_letter, age_of, answer_to, answers, answers_with, asked_query, ballot_of, casts, closes, completes, entry_after, entry_at, followed_by, learns, no_letter, prepared_record, ran_as, refused_as, reply_letter, reply_of, restarts, server_row, settled_as, told_of, value_of_run, waits, with_answer, yes_letter}
+use Rattle.tp_server.specs.Row.{ack_letter, age_of, answer_to, answers, answers_with, asked_query, ballot_of, casts, closes, completes, entry_after, entry_at, followed_by, learns, no_letter, prepared_record, ran_as, refused_as, reply_letter, reply_of, restarts, server_row, settled_as, shows, shows_on, told_of, value_of_run, waits, with_answer, yes_letter}
 use Rattle.tp_server.specs.State.{Server}
 use Rattle.tp_server.specs.Verdicts.{with_wants, verdicts_on}
 
@@ -89,7 +90,7 @@ pub record ServerPaired (sc : Scenario) (A : TxnId → Option Asker) (s : Server
 abbrev pub RequestPairs : Scenario → ServerId → (TxnId → Option Asker) → (TxnId → Pair) → Body → Type 0
 RequestPairs sc at A P (body.Query q) = (declared : Transaction) → slice_get sc.txns q.txn.0 ≡ Some declared → QueryFits (site_of sc at.0 declared) (P q.txn) q
 RequestPairs sc at A P (body.Prepare r) = (declared : Transaction) → slice_get sc.txns r.txn.0 ≡ Some declared → PrepareFits (site_of sc at.0 declared) (P r.txn) r
-RequestPairs sc at A P (body.Validate v) = (declared : Transaction) → slice_get sc.txns v.txn.0 ≡ Some declared → ValidateFits (P v.txn) v
+RequestPairs sc at A P (body.Validate v) = (declared : Transaction) → slice_get sc.txns v.txn.0 ≡ Some declared → ValidateFits (site_of sc at.0 declared) (P v.txn) v
 RequestPairs sc at A P (body.Decide d) = A d.txn ≡ None
 RequestPairs sc at A P _ = Unit {0}
 
@@ -633,6 +634,42 @@ votes_again_pairs sc A s kept r entry cast h there ballot_is =
       );
     }
 
+-- verdicts are on what the entry has, or there are none
+evaluated_on : (sc : Scenario) (s : Server) (p : PrepareRequest) (entry : Entry) (verdicts : List Verdict) → IsEvaluated sc s p entry verdicts → AreNoneOrOn entry.deeds verdicts
+evaluated_on sc s p entry _ (Stapled staple txn given there) = inr (numbers_kept sc (with_wants s p.want) txn staple p.want entry.deeds)
+evaluated_on sc s p entry _ (Unstapled given) = inl refl
+
+-- ---- Validate
+
+-- what the entry has is evaluated, and the verdicts are sent
+shows_pairs : (sc : Scenario) (A : TxnId → Option Asker) (s : Server) (kept : List Record) (v : ValidateRequest) (entry : Entry) (txn : Transaction) → ServerPaired sc A s kept → entry_at s v.txn ≡ Some entry → entry.epoch ≡ v.epoch
+    → RequestPairs sc s.server A (λ other. pair_up other (A other) s kept) (body.Validate v) → RowPairs sc A s kept (shows_on sc (with_wants s v.want) v entry txn)
+shows_pairs sc A s kept v entry txn h there same asked =
+    record {
+      next = still_next sc A s kept h;
+      places = h.places;
+      replies = (
+        record {
+          from_is = refl;
+          says = λ declared found.
+              let verdicts = verdicts_on sc (with_wants s v.want) txn v.staple v.want entry.deeds in
+              proves (site_of sc s.server.0 declared) (pair_up v.txn (A v.txn) s kept) entry v (record { txn = v.txn; turn = v.turn; verdicts = Some verdicts }) verdicts refl there (h.fits v.txn declared found) (asked declared found) same
+              refl refl (numbers_kept sc (with_wants s v.want) txn v.staple v.want entry.deeds);
+        },
+        tt,
+      );
+    }
+
+-- what was done in the epoch that is named is lost
+loses_pairs : (sc : Scenario) (A : TxnId → Option Asker) (s : Server) (kept : List Record) (v : ValidateRequest) → ServerPaired sc A s kept → RequestPairs sc s.server A (λ other. pair_up other (A other) s kept) (body.Validate v)
+    → RowPairs sc A s kept (shows s v None)
+loses_pairs sc A s kept v h asked =
+    record {
+      next = still_next sc A s kept h;
+      places = h.places;
+      replies = (record { from_is = refl; says = λ declared found. loses (site_of sc s.server.0 declared) (pair_up v.txn (A v.txn) s kept) v (record { txn = v.txn; turn = v.turn; verdicts = None }) (asked declared found) refl refl }, tt);
+    }
+
 -- ---- Decide
 
 settled_now_in_pairs : (txn : TxnId) (kept : List Record) (s : Settled) → s.txn ≡ txn → settled_in txn kept ≡ None → settled_in txn (log_with kept (Some (log.Settled s))) ≡ Some s
@@ -712,6 +749,7 @@ server_row_pairs sc A s kept mail rightly h sound m asked =
     server_by sc s mail (RowPairs sc A s kept) rightly
     (record {
       relocked = λ effect locks k. record { next = k.next; places = k.places; replies = k.replies };
+      relearnt = λ effect admin pin k. record { next = k.next; places = k.places; replies = k.replies };
       ignored = ignores_pairs sc A s kept h;
       ran = λ q query entry value proof k r.
           let request : IsSoundQuery sc to q = subst (IsSoundBody sc to) k.said_is m in
@@ -721,14 +759,17 @@ server_row_pairs sc A s kept mail rightly h sound m asked =
           let request : IsSoundQuery sc to q = subst (IsSoundBody sc to) k.said_is m in
           waits_pairs sc A s kept mail.sent q entry h (open_unsettled s kept q.txn h.agrees k.unsettled) request.txn k.place (subst (RequestPairs sc s.server A P) k.said_is asked);
       denied = λ q query entry value verdict k d. unrun q query entry value (answer.Denied verdict) refl k;
+      outdated = λ q query entry value newer k known. unrun q query entry value (answer.Newer newer) refl k;
       died = λ q query entry value other k dying. unrun q query entry value (answer.Died other) refl k;
       restarted = λ q k. restarts_pairs sc A s kept q h (subst (RequestPairs sc s.server A P) k.said_is asked);
       answered = λ q entry given k.
           answers_pairs sc A s kept q entry given h k.found
           (same_txn_from q.txn given.txn (each_found (λ (d : DoneReply). IsSoundDone sc (actor.Coordinator q.txn) d) (λ (d : DoneReply). d.query == q.query) entry.answers given (sound.entries q.txn.0 entry k.found).answers k.given_is).goes_to) k.given_is;
-      voted = λ p entry staple txn k.
-          votes_pairs sc A s kept p entry (prepared_record (with_wants s p.want) p entry (verdicts_on sc (with_wants s p.want) txn staple p.want entry.deeds)) h (open_unsettled s kept p.txn h.agrees k.unsettled) k.found (eqb-true entry.epoch p.epoch k.same_epoch)
-          (subst (IsSoundBody sc to) k.said_is m).txn refl (record { epoch = refl; deeds = refl; verdicts = inr (numbers_kept sc (with_wants s p.want) txn staple p.want entry.deeds) }) (subst (RequestPairs sc s.server A P) k.said_is asked);
+      voted = λ p entry verdicts k.
+          votes_pairs sc A s kept p entry (prepared_record (with_wants s p.want) p entry verdicts) h (open_unsettled s kept p.txn h.agrees k.unsettled) k.found (eqb-true entry.epoch p.epoch k.same_epoch)
+          (subst (IsSoundBody sc to) k.said_is m).txn refl (record { epoch = refl; deeds = refl; verdicts = evaluated_on sc s p entry verdicts k.evaluated }) (subst (RequestPairs sc s.server A P) k.said_is asked);
+      shown = λ v entry txn k. shows_pairs sc A s kept v entry txn h k.found (eqb-true entry.epoch v.epoch k.same_epoch) (subst (RequestPairs sc s.server A P) k.said_is asked);
+      lost_verdicts = λ v k. loses_pairs sc A s kept v h (subst (RequestPairs sc s.server A P) k.said_is asked);
       voted_again = λ p entry cast k. votes_again_pairs sc A s kept p entry cast h k.found k.ballot_is;
       refused = λ p entry number value k.
           refuses_pairs sc A s kept p _ h (open_unsettled s kept p.txn h.agrees k.unsettled) (subst (IsSoundBody sc to) k.said_is m).txn
@@ -743,6 +784,7 @@ server_row_pairs sc A s kept mail rightly h sound m asked =
       pushed = λ push k. learns_pairs sc A s kept push h;
       resumed = λ effect grant q query entry value proof k r now. resumes_pairs sc A s kept effect grant q query entry value proof k now;
       resumed_denied = λ effect grant q query entry value verdict k d now. resumes_unrun sc A s kept effect grant q query entry value (answer.Denied verdict) k refl now;
+      resumed_outdated = λ effect grant q query entry value newer k known now. resumes_unrun sc A s kept effect grant q query entry value (answer.Newer newer) k refl now;
     })
   where
     -- a query that asked, and does not run

@@ -18,7 +18,7 @@ use Rattle.tp_model.specs.Words.no
 use Rattle.tp_model.specs.Words.outcome
 use Rattle.tp_model.specs.Words.step
 use Rattle.tp_model.specs.Words.what
-use Rattle.tp_model.specs.Words.{Actor, Cause, DecideRequest, Fact, Letter, Mail, Reading, Record, Scenario, ServerId, Settled, Staple, Step, Transaction, TxnId, VoteReply, What}
+use Rattle.tp_model.specs.Words.{Actor, Cause, DecideRequest, Fact, Letter, Mail, Record, Scenario, ServerId, Settled, Staple, Step, Transaction, TxnId, Verdict, VoteReply, What}
 use Rattle.tp_runs.proofs.ids.Valid.{IsValid}
 use Rattle.tp_runs.proofs.agreement.Coordinator.{idle_is}
 use Rattle.tp_runs.proofs.agreement.CoordinatorActs.{coordinator_facts}
@@ -26,10 +26,12 @@ use Rattle.tp_runs.proofs.agreement.ServerActs.{each_server_fact, server_facts}
 use Rattle.tp_runs.proofs.agreement.Steps.{mail_rests, no_settled, own_txn}
 use Rattle.tp_runs.proofs.agreement.World.{Agrees, BodyRests, MailRests}
 use Rattle.tp_runs.proofs.basics.Facts.{ArePast, before_past, facts_after, grows_with_facts}
+use Rattle.tp_runs.proofs.basics.Homes.{begins_of_query, is_beginning, is_of_query, is_probed, is_ran, probed_there, validated_ran}
 use Rattle.tp_runs.proofs.basics.Ids.{same_txn_from, same_txn_is, server_number}
 use Rattle.tp_types.proofs.EachLemmas.{at_made, each_append, each_as, each_get}
 use Rattle.tp_runs.proofs.basics.Logs.{appended, gained, get_set, settled_with}
-use Rattle.tp_runs.proofs.basics.Phases.{Asks, Pauses, Prepares, Rests, awaits_is, is_undecided, stand_of}
+use Rattle.tp_runs.proofs.basics.Passed.{deeds_kept, judged_stands, judged_undecided, no_running, passed_past, passed_undecided, query_stands, read_newer, reply_checking}
+use Rattle.tp_runs.proofs.basics.Phases.{Pauses, Prepares, Rests, is_undecided, running_undecided, stand_of, stand_over}
 use Rattle.tp_runs.proofs.known.World.{Pairs}
 use Rattle.tp_runs.proofs.refusals.Refusing.{asked_prepares, refusal_shown, run_at_abort}
 use Rattle.tp_runs.proofs.refusals.Running.{Remembers, undecided_yet}
@@ -37,8 +39,12 @@ use Rattle.tp_runs.proofs.refusals.World.{AreAbortedRuns, IsAwaiting, IsRunBefor
 use Rattle.tp_runs.proofs.serial_data.Settling.{IsQuiet}
 use Rattle.tp_runs.proofs.serial_data.World.{Serial}
 use Rattle.tp_round.specs.declared.round.Round.{Round}
+use Rattle.tp_round.specs.Judge.{after_reply}
+use Rattle.tp_scheme.specs.declared.moves.Move.TheVariants as move
+use Rattle.tp_scheme.specs.declared.moves.Move.{Move}
 use Rattle.tp_scheme.specs.declared.moves.Point.TheVariants as point
-use Rattle.tp_coord.proofs.Rows.{ByDenial, ByLoss, ByOlder, ByProof, ByReading, ByRefusal, ByRestart, ByRounds, ByVotes, Gained, IsEnded, IsJudged, IsPassed, QueryRan, coordinator_by, submit_by, with_gained}
+use Rattle.tp_scheme.specs.declared.moves.Point.{Point}
+use Rattle.tp_coord.proofs.Rows.{ByDenial, ByLoss, ByLostVerdicts, ByNewer, ByNewest, ByOlder, ByProof, ByRefusal, ByRestart, ByRounds, Gained, IsEnded, IsPassed, IsReply, coordinator_by, submit_by, with_gained}
 use Rattle.tp_server.proofs.Rows.{server_by}
 use Rattle.tp_runs.proofs.walks.Steps.{Cases, IsCoordinatorUp, IsServerUp, KeepsUp, SaysIdle, WaitRightly, WasSent, machine_after_by}
 use Rattle.tp_recover.specs.Log.{settled_in, settlement_in}
@@ -48,11 +54,12 @@ use Rattle.tp_machine.specs.Parts.{Part}
 use Rattle.tp_types.specs.Each.{Each}
 use Rattle.tp_runs.specs.Sound.{IsSound, IsSoundBody, IsSoundMail}
 use Rattle.tp_machine.specs.Named.{IsStepOf}
-use Rattle.tp_coord.specs.Row.{asks, asks_in, commit_round, coordinator_row, next_number, refused_by, repeats, sends_query, staple_of, submit_row}
+use Rattle.tp_coord.specs.Row.{asks, asks_in, commit_round, coordinator_row, move_after, next_at, number_at, probes, probing_at, reading_of, refused_by, repeats, sends_query, staple_of, stays, submit_row, validation_round, asks_votes as votes_asked}
 use Rattle.tp_coord.specs.State.{Coordinator}
 use Rattle.tp_machine.specs.declared.actors.Actors.{Actors}
 use Rattle.tp_coord.specs.declared.coordinator.Phase.TheVariants as phase
 use Rattle.tp_coord.specs.declared.coordinator.Span.TheVariants as span
+use Rattle.tp_coord.specs.declared.coordinator.Span.{Span}
 use Rattle.tp_server.specs.Opened as server_opened
 use Rattle.tp_server.specs.Row.{server_row}
 use Rattle.tp_server.specs.State.{Server}
@@ -112,10 +119,6 @@ row_opens was c new up leaves = λ next is undecided.
 other_phase : (old new : Coordinator) → is_undecided old.phase ≡ true → (stand_of old.phase ≡ Prepares → ⊥) → LeavesOpen old new
 other_phase old new undecided other = record { undecided = undecided; keeps = λ prepares. absurd (other prepares) }
 
--- one that awaits the answer to a query
-querying_open : (c new : Coordinator) (number : ℕ) (staple : Option Staple) → c.phase ≡ phase.Querying number staple → LeavesOpen c new
-querying_open c new number staple is = other_phase c new (ap is_undecided is) (λ prepares. let stands : stand_of c.phase ≡ Asks = ap stand_of is in cc)
-
 -- one that awaits the authority before a query
 stapling_open : (c new : Coordinator) (number : ℕ) → c.phase ≡ phase.Stapling number → LeavesOpen c new
 stapling_open c new number is = other_phase c new (ap is_undecided is) (λ prepares. let stands : stand_of c.phase ≡ Pauses = ap stand_of is in cc)
@@ -127,25 +130,65 @@ still_undecided sc c mail =
     (record {
       ignored = λ e. record { undecided = e; keeps = keeps_same c };
       stapled = λ tell query home k at e. stapling_open c (sends_query sc c query (Some (staple_of tell mail.sent)) home).state query k.stapling;
-      sends_query = λ query now next passed moves home e. ran_open (sends_query sc (with_gained c now) (next_number query) None next).state query now passed;
-      asks_staple = λ query now passed moves e. ran_open (asks_in (with_gained c now) (phase.Stapling (next_number query))).state query now passed;
-      commit_rounds = λ query now passed moves e. ran_open (asks (with_gained c now) span.Commit (commit_round sc c)).state query now passed;
-      told = λ tell round k e. record { undecided = ap is_undecided k.asking; keeps = λ prepares. record { prepares = refl; deeds = refl } };
-      counted = λ reply round staple server verdicts y e. record { undecided = ap is_undecided y.checking; keeps = λ prepares. record { prepares = refl; deeds = refl } };
-      probed = λ reply round staple server verdicts y whole reads e. record { undecided = ap is_undecided y.checking; keeps = λ prepares. record { prepares = refl; deeds = refl } };
-      decides = λ instances rounds passed e. absurd (cc);
+      sends_query = λ at now rounds next passed moves home e. begun_open (sends_query sc (with_gained c now) (next_at at) None next).state at now rounds move.SendQuery passed refl moves;
+      asks_staple = λ at now rounds passed moves e. begun_open (asks_in (with_gained c now) (phase.Stapling (next_at at))).state at now rounds move.Ask passed refl moves;
+      probes_proofs = λ at now rounds passed moves e. probing_open at now rounds passed (probed_there sc c at moves);
+      validates = λ at now rounds passed moves e.
+          passed_open (asks (with_gained c now) (span.Validate (number_at at)) (validation_round sc c (number_at at))).state at now rounds passed (ran_of_query at (validated_ran sc c at moves));
+      commit_rounds = λ at now rounds passed moves e. begun_open (asks (with_gained c now) span.Commit (commit_round sc c)).state at now rounds move.CommitRounds passed refl moves;
+      asks_votes = λ at now rounds passed moves e. begun_open (votes_asked (with_gained c now)).state at now rounds move.Votes passed refl moves;
+      decides = λ at now rounds passed moves e. absurd (cc);
       aborted = λ why ended e. absurd (cc);
-      updated = λ round staple reading named j f e. record { undecided = judged_open round staple reading j; keeps = λ prepares. record { prepares = refl; deeds = refl } };
+      told = λ tell over round k e. record { undecided = ap is_undecided k.asking; keeps = λ prepares. record { prepares = sym (ap stand_of k.asking) ∙ prepares; deeds = refl } };
+      counted = λ over round staple server verdicts y e. reply_open over round staple server verdicts (stays c over (after_reply round server verdicts) (Some staple)).state y refl refl;
+      probed = λ over round staple server verdicts y whole reads e. reply_open over round staple server verdicts (probes c (phase.Reading over (after_reply round server verdicts))).state y refl refl;
+      updated = λ over round staple reading named j f e.
+          record {
+            undecided = judged_undecided c mail over round staple reading j;
+            keeps = λ prepares. record { prepares = sym (judged_stands c mail over round staple reading j) ∙ prepares; deeds = refl };
+          };
+      voted = λ reply awaited server verdicts k e. record { undecided = ap is_undecided k.voting; keeps = λ prepares. record { prepares = refl; deeds = refl } };
       acknowledged = λ ack ended awaited server a e. absurd (cc);
       inquired = λ inquiry ended awaited server k e. record { undecided = e; keeps = keeps_same c };
     })
   where
-    ran_open : (new : Coordinator) (query : ℕ) (now : Gained) → IsPassed sc c mail (point.Ran query) now → LeavesOpen c new
-    ran_open new _ _ (QueryRan done server asked value proof k) = let awaits = awaits_is c c.phase done k.awaited in querying_open c new done.query awaits.0 awaits.1
+    -- after a query the servers are not yet brought to vote
+    passed_open : (new : Coordinator) (at : Point) (now : Gained) (rounds : ℕ) → IsPassed sc c mail at now rounds → is_of_query at ≡ true → LeavesOpen c new
+    passed_open new at now rounds passed of_query = other_phase c new (passed_undecided sc c mail at now rounds passed) (query_stands sc c mail at now rounds passed of_query)
 
-    judged_open : (round : Round) (staple : Option Staple) (reading : Option Reading) → IsJudged c mail round staple reading → is_undecided c.phase ≡ true
-    judged_open _ _ _ (ByVotes reply round staple server verdicts y whole unread) = ap is_undecided y.checking
-    judged_open _ _ _ (ByReading reply round k) = ap is_undecided k.reading
+    -- where a query begins, or all are done with
+    begun_open : (new : Coordinator) (at : Point) (now : Gained) (rounds : ℕ) (wanted : Move) → IsPassed sc c mail at now rounds → is_beginning wanted ≡ true → move_after sc c at ≡ wanted → LeavesOpen c new
+    begun_open new at now rounds wanted passed begins moves = passed_open new at now rounds passed (begins_of_query sc c at wanted (passed_past sc c mail at now rounds passed) begins moves)
+
+    ran_of_query : (at : Point) → is_ran at ≡ true → is_of_query at ≡ true
+    ran_of_query (point.Ran number) e = refl
+    ran_of_query (point.Begun number) e = absurd (cc)
+    ran_of_query (point.Stapled number) e = absurd (cc)
+    ran_of_query (point.Read number) e = absurd (cc)
+    ran_of_query (point.Validated number) e = absurd (cc)
+    ran_of_query point.Voted e = absurd (cc)
+    ran_of_query point.VoteRead e = absurd (cc)
+
+    -- the proofs so far are read after a query, or after the votes
+    probing_open : (at : Point) (now : Gained) (rounds : ℕ) → IsPassed sc c mail at now rounds → is_probed at ≡ true → LeavesOpen c (probes (with_gained c now) (probing_at at)).state
+    probing_open (point.Ran number) now rounds passed e = passed_open (probes (with_gained c now) (phase.Probing number)).state (point.Ran number) now rounds passed refl
+    probing_open point.Voted now rounds passed e =
+        record {
+          undecided = passed_undecided sc c mail point.Voted now rounds passed;
+          keeps = λ prepares. record { prepares = refl; deeds = deeds_kept sc c mail point.Voted now rounds passed refl };
+        }
+    probing_open (point.Begun number) now rounds passed e = absurd (cc)
+    probing_open (point.Stapled number) now rounds passed e = absurd (cc)
+    probing_open (point.Read number) now rounds passed e = absurd (cc)
+    probing_open (point.Validated number) now rounds passed e = absurd (cc)
+    probing_open point.VoteRead now rounds passed e = absurd (cc)
+
+    -- with a reply the round stands as it did
+    reply_open : (over : Span) (round : Round) (staple : Staple) (server : ServerId) (verdicts : List Verdict) (new : Coordinator) → IsReply c mail over round staple server verdicts → stand_of new.phase ≡ stand_over over → new.deeds ≡ c.deeds
+        → LeavesOpen c new
+    reply_open over round staple server verdicts new y stands same =
+        let checking : c.phase ≡ phase.Checking over round staple = reply_checking c mail over round staple server verdicts y in
+        record { undecided = ap is_undecided checking; keeps = λ prepares. record { prepares = stands ∙ (sym (ap stand_of checking) ∙ prepares); deeds = same } }
 
 -- ---- a coordinator decides
 
@@ -177,15 +220,19 @@ coordinator_row_shown sc w txn part c n mail sound a h sent up =
     (record {
       ignored = tt;
       stapled = λ tell query home k at. tt;
-      sends_query = λ query now next passed moves home. tt;
-      asks_staple = λ query now passed moves. tt;
-      commit_rounds = λ query now passed moves. tt;
-      told = λ tell round k. tt;
-      counted = λ reply round staple server verdicts y. tt;
-      probed = λ reply round staple server verdicts y whole reads. tt;
-      decides = λ instances rounds passed. tt;
+      sends_query = λ at now rounds next passed moves home. tt;
+      asks_staple = λ at now rounds passed moves. tt;
+      probes_proofs = λ at now rounds passed moves. tt;
+      validates = λ at now rounds passed moves. tt;
+      commit_rounds = λ at now rounds passed moves. tt;
+      asks_votes = λ at now rounds passed moves. tt;
+      decides = λ at now rounds passed moves. tt;
       aborted = λ why ended. shown why ended;
-      updated = λ round staple reading named j f. tt;
+      told = λ tell over round k. tt;
+      counted = λ over round staple server verdicts y. tt;
+      probed = λ over round staple server verdicts y whole reads. tt;
+      updated = λ over round staple reading named j f. tt;
+      voted = λ reply awaited server verdicts k. tt;
       acknowledged = λ ack ended awaited server k. tt;
       inquired = λ inquiry ended awaited server k. tt;
     })
@@ -201,17 +248,21 @@ coordinator_row_shown sc w txn part c n mail sound a h sent up =
         → WhatRefused sc (facts_after w (what.Decided c.txn (decision.Abort why) ∷ [])) (length w.steps) (what.Decided c.txn (decision.Abort why))
     shown _ (ByOlder done server asked other k) = tt
     shown _ (ByDenial done server asked verdict k) = tt
-    shown _ (ByProof round staple reading verdict j e) = tt
-    shown _ (ByRounds reply round mets k e) = tt
+    shown _ (ByNewer done server asked newer k) = tt
+    shown _ (ByNewest reply at why k found) =
+        subst (λ (other : Cause). WhatRefused sc (facts_after w (what.Decided c.txn (decision.Abort other) ∷ [])) (length w.steps) (what.Decided c.txn (decision.Abort other))) (sym (read_newer c (reading_of reply mail.sent) why found).1) tt
+    shown _ (ByProof over round staple reading verdict j e) = tt
+    shown _ (ByRounds reply over round mets k e) = tt
     shown _ (ByRestart done server asked k) = tt
-    shown _ (ByLoss reply round staple server k) = tt
-    shown _ (ByRefusal reply round staple server number value k) =
+    shown _ (ByLoss reply server k) = tt
+    shown _ (ByLostVerdicts reply number round staple server k) = tt
+    shown _ (ByRefusal reply server number value k) =
         let own : c.txn ≡ txn = own_txn sc w txn part c sound up.found up.up in
         let of_txn : reply.txn ≡ txn = reply_txn reply k.said_is in
         let settled = no_settled sc w mail.letter.from mail.letter.to mail.letter.body reply server (no.Range number value) (each_get (MailRests sc w.actors) w.mails n mail a.mails sent.sent) k.said_is k.from_is k.vote_is in
         let there : settled_at w.actors.servers server.0 txn ≡ Some (record { txn = txn; outcome = outcome.Abort; why = Some (no.Range number value) }) =
         subst (λ (t : TxnId). settled_at w.actors.servers server.0 t ≡ Some (record { txn = t; outcome = outcome.Abort; why = Some (no.Range number value) })) of_txn settled in
-        let awaiting : IsAwaiting w.actors.coordinators txn = record { part = part; c = c; found = up.found; up = up.up; undecided = ap is_undecided k.checking } in
+        let awaiting : IsAwaiting w.actors.coordinators txn = record { part = part; c = c; found = up.found; up = up.up; undecided = running_undecided c.phase (no_running c mail reply server (no.Range number value) k) } in
         subst (λ (t : TxnId). WhatRefused sc (facts_after w (what.Decided t (decision.Abort (cause.No (refused_by server number value))) ∷ [])) (length w.steps) (what.Decided t (decision.Abort (cause.No (refused_by server number value))))) (sym own)
         (abort_shown sc w (what.Decided txn (decision.Abort (cause.No (refused_by server number value))) ∷ []) txn server number value a.past
         (h.settled server txn (record { txn = txn; outcome = outcome.Abort; why = Some (no.Range number value) }) there awaiting))
@@ -280,14 +331,18 @@ server_row_shown sc w n mail at part s valid rightly sound a pairs serial known 
     server_by sc s mail (λ (effect : Effect Server). IfSome effect.reaction.append (SettlementShown sc w at (server_facts at effect.reaction.append))) (rightly at part s up)
     (record {
       relocked = λ effect locks k. k;
+      relearnt = λ effect admin pin k. k;
       ignored = tt;
       ran = λ q query entry value proof k r. tt;
       denied = λ q query entry value verdict k d. tt;
+      outdated = λ q query entry value newer k found. tt;
       waited = λ q query entry value k. tt;
       died = λ q query entry value other k dying. tt;
       restarted = λ q k. tt;
       answered = λ q entry given k. tt;
-      voted = λ p entry staple txn k. tt;
+      voted = λ p entry verdicts k. tt;
+      shown = λ v entry txn k. tt;
+      lost_verdicts = λ v k. tt;
       voted_again = λ p entry cast k. tt;
       refused = λ p entry number value k awaiting.
           record {
@@ -301,6 +356,7 @@ server_row_shown sc w n mail at part s valid rightly sound a pairs serial known 
       pushed = λ push k. tt;
       resumed = λ effect grant q query entry value proof k r now. now;
       resumed_denied = λ effect grant q query entry value verdict k d now. now;
+      resumed_outdated = λ effect grant q query entry value newer k found now. now;
     })
   where
     -- what is ordered was decided

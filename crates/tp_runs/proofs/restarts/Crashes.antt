@@ -1,29 +1,29 @@
 -- Restarts, crashes and boots: a crash is counted, who comes up is in the next epoch, and a halt has its crash.
 use Rattle.std.proofs.Common.{Bool, List, None, Option, Some, [], ap, arith, cond, drop, false, flat_map, is_none, length, nat_le, refl, slice_get, subst, true, ℕ, ◌+◌, ◌==◌, ◌∙◌, ◌∷◌, ◌≡◌}
-use Rattle.std.specs.List.{list_any}
 use Rattle.std.proofs.lemmas.Bool.{and_from, le-leb, or_left, or_right}
 use Rattle.std.proofs.lemmas.List.Folds.{list_any-append}
+use Rattle.std.specs.List.{list_any}
+use Rattle.tp_types.proofs.EachLemmas.{placed_none}
 use Rattle.tp_types.proofs.ListLemmas.{number_itself}
 use Rattle.tp_model.specs.Causes.{is_coordinator_actor, is_server_actor}
 use Rattle.tp_model.specs.Facts.{before, is_submission, outcome_of}
+use Rattle.tp_model.specs.Words.{Decision, Fact, Mail, Record, Scenario, ServerId, TxnId, What}
 use Rattle.tp_model.specs.Words.actor
 use Rattle.tp_model.specs.Words.log
 use Rattle.tp_model.specs.Words.outcome
 use Rattle.tp_model.specs.Words.what
-use Rattle.tp_model.specs.Words.{Decision, Fact, Mail, Record, Scenario, ServerId, TxnId, What}
-use Rattle.tp_recover.specs.Held.{by_txn}
-use Rattle.tp_recover.specs.Kept.{kept}
-use Rattle.tp_recover.specs.Log.{decided_in}
 use Rattle.tp_coord.specs.Booted as coord_boot
 use Rattle.tp_coord.specs.Opened.{idle}
 use Rattle.tp_coord.specs.Row.{coordinator_row, is_begun}
 use Rattle.tp_coord.specs.State.{Coordinator}
+use Rattle.tp_machine.specs.Machine.{State, acts_by, coordinator_fact, coordinator_move, facts_of, goes_down, log_with, server_boots, server_fact, server_move, state_after}
+use Rattle.tp_machine.specs.Parts.{Part}
+use Rattle.tp_recover.specs.Held.{by_txn}
+use Rattle.tp_recover.specs.Kept.{kept}
+use Rattle.tp_recover.specs.Log.{decided_in}
 use Rattle.tp_server.specs.Booted.{boot_row, booted}
 use Rattle.tp_server.specs.Row.{server_row}
 use Rattle.tp_server.specs.State.{Server}
-use Rattle.tp_machine.specs.Machine.{goes_down, server_boots}
-use Rattle.tp_machine.specs.Machine.{State, acts_by, coordinator_fact, coordinator_move, facts_of, log_with, server_fact, server_move, state_after}
-use Rattle.tp_machine.specs.Parts.{Part}
 use Rattle.tp_runs.proofs.ages.World.{Ages}
 use Rattle.tp_runs.proofs.agreement.Logs.{once, submitted_count, submitted_up}
 use Rattle.tp_runs.proofs.agreement.ServerActs.{begun_count, submitted_told}
@@ -31,6 +31,7 @@ use Rattle.tp_runs.proofs.agreement.World.{Agrees}
 use Rattle.tp_runs.proofs.basics.Booted.{booted_entries, inquiries_are, records_of_scenario}
 use Rattle.tp_runs.proofs.basics.Crashes.{crash_shown, first_noted, is_crash_from, noted}
 use Rattle.tp_runs.proofs.basics.Facts.{before_past, facts_after, grows_with_facts, past_after}
+use Rattle.tp_runs.proofs.basics.Homes.{HaveHomes}
 use Rattle.tp_runs.proofs.basics.Ids.{server_number}
 use Rattle.tp_runs.proofs.deaths.World.{Deaths}
 use Rattle.tp_runs.proofs.epochs.World.{Epochs}
@@ -43,7 +44,6 @@ use Rattle.tp_runs.proofs.restarts.World.{CoordinatorActsSince, IsHalted, MoveSi
 use Rattle.tp_runs.proofs.walks.Crashes.{CrashCases, Left, LeftOfCoordinator, LeftOfServer, Nothing, crash_cases_as, left_shown}
 use Rattle.tp_runs.proofs.walks.Steps.{IsCoordinatorUp, IsServerUp, WaitRightly}
 use Rattle.tp_runs.specs.Sound.{IsSound}
-use Rattle.tp_types.proofs.EachLemmas.{placed_none}
 
 -- ---- servers
 
@@ -113,9 +113,9 @@ halted_now sc w txn part c more a up begun =
     crash_shown who txn place (place + 1) (facts_after w happened) (past_after w happened a.past) (ap (list_any (is_submission txn)) all ∙ submitted)
     (list_any-append (is_crash_from who place) w.facts (facts_of place happened) ∙ or_right _ _ (or_left (is_crash_from who place crash) _ here))
 
-crashed_by_coordinator : (sc : Scenario) (w : State) (txn : TxnId) (part : Part Coordinator) (c : Coordinator) (append : Option Record) → IsSound sc w → Agrees sc w → Epochs sc w → Deaths sc w → Restarts sc w → IsCoordinatorUp w txn part c
+crashed_by_coordinator : (sc : Scenario) (w : State) (txn : TxnId) (part : Part Coordinator) (c : Coordinator) (append : Option Record) → HaveHomes sc → IsSound sc w → Agrees sc w → Epochs sc w → Deaths sc w → Restarts sc w → IsCoordinatorUp w txn part c
     → is_begun c.phase ≡ true → LeftOfCoordinator sc w txn c append → MoveSince sc w (coordinator_move w.actors txn (goes_down coordinator_fact (what.Crashed (actor.Coordinator txn) ∷ []) part append))
-crashed_by_coordinator sc w txn part c append sound a epochs deaths h up begun left =
+crashed_by_coordinator sc w txn part c append homes sound a epochs deaths h up begun left =
     coordinator_acts_since sc w txn part.log None (what.Crashed (actor.Coordinator txn) ∷ []) append [] h
     (record {
       state = tt;
@@ -124,7 +124,7 @@ crashed_by_coordinator sc w txn part c append sound a epochs deaths h up begun l
       down = λ down. halted_now sc w txn part c (flat_map coordinator_fact (drop (length part.log) (log_with part.log append))) a up begun;
       own_says = λ facts. (tt, tt);
       forces = left_shown w (actor.Coordinator txn) (λ (mail : Mail). (coordinator_row sc c mail).reaction.append) append (DecidesSince (WasLostAt sc w.facts (length w.steps)) (IsHalted w.facts (length w.steps)))
-          (λ n mail sent. (coordinator_sends_since sc w sound a epochs deaths h n mail txn part c sent up).forces) left;
+          (λ n mail sent. (coordinator_sends_since sc w homes sound a epochs deaths h n mail txn part c sent up).forces) left;
     })
 
 -- one that boots keeps no epoch, and where it aborts, for its halt, it was down until now
@@ -157,17 +157,17 @@ booted_by_coordinator sc w txn part h found down =
 
 -- ---- all of them
 
-pub restarts_crash_cases : (sc : Scenario) (w : State) → WaitRightly sc w → IsSound sc w → Agrees sc w → Epochs sc w → Ages w → Pairs sc w → Deaths sc w → Restarts sc w → CrashCases sc w (λ taken move. MoveSince sc w move)
-restarts_crash_cases sc w rightly sound a epochs ages pairs deaths h =
+pub restarts_crash_cases : (sc : Scenario) (w : State) → HaveHomes sc → WaitRightly sc w → IsSound sc w → Agrees sc w → Epochs sc w → Ages w → Pairs sc w → Deaths sc w → Restarts sc w → CrashCases sc w (λ taken move. MoveSince sc w move)
+restarts_crash_cases sc w homes rightly sound a epochs ages pairs deaths h =
     record {
       server_crashed = λ at part s cut append up left. crashed_by_server sc w at part s append rightly sound a epochs ages pairs deaths h up left;
       server_booted = λ at part exists found down. booted_by_server sc w at part sound h found down;
-      coordinator_crashed = λ txn part c cut append exists up begun left. crashed_by_coordinator sc w txn part c append sound a epochs deaths h up begun left;
+      coordinator_crashed = λ txn part c cut append exists up begun left. crashed_by_coordinator sc w txn part c append homes sound a epochs deaths h up begun left;
       coordinator_booted = λ txn part exists found down. booted_by_coordinator sc w txn part h found down;
     }
 
 -- what is said of restarts stays
-pub restarts_crashed : (sc : Scenario) (w : State) → WaitRightly sc w → IsSound sc w → Agrees sc w → Epochs sc w → Ages w → Pairs sc w → Deaths sc w → Restarts sc w → CrashCases sc w (λ taken move. Restarts sc (state_after w taken move))
-restarts_crashed sc w rightly sound a epochs ages pairs deaths h =
+pub restarts_crashed : (sc : Scenario) (w : State) → HaveHomes sc → WaitRightly sc w → IsSound sc w → Agrees sc w → Epochs sc w → Ages w → Pairs sc w → Deaths sc w → Restarts sc w → CrashCases sc w (λ taken move. Restarts sc (state_after w taken move))
+restarts_crashed sc w homes rightly sound a epochs ages pairs deaths h =
     crash_cases_as sc w (λ taken move. MoveSince sc w move) (λ taken move. Restarts sc (state_after w taken move)) (λ taken move t. state_after_since sc w taken move h t)
-    (restarts_crash_cases sc w rightly sound a epochs ages pairs deaths h)
+    (restarts_crash_cases sc w homes rightly sound a epochs ages pairs deaths h)

@@ -1,20 +1,21 @@
 -- Restarts, a server's rows: an entry is made in the present epoch, and all else repeats an epoch that is there; a
 -- restart is told where work was lost.
 use Rattle.std.proofs.Common.{IfSome, List, Some, [], false, refl, subst, sym, ℕ, ℤ, ⊎_elim, ◌++◌, ◌==◌, ◌∷◌, ◌≡◌}
+use Rattle.tp_types.proofs.EachLemmas.{each_found, each_more, placed_emptied, placed_set}
+use Rattle.tp_types.specs.Each.{Each}
 use Rattle.tp_types.specs.Effect.{Effect, sends}
-use Rattle.tp_lock.specs.declared.entry.Grant.{Grant}
+use Rattle.tp_model.specs.Deeds.{deed_of}
+use Rattle.tp_model.specs.Words.{Answer, DoneReply, Letter, Mail, No, PrepareRequest, Query, QueryRequest, Scenario, ServerId, Settled, TxnId, ValidateRequest}
 use Rattle.tp_model.specs.Words.answer
 use Rattle.tp_model.specs.Words.body
 use Rattle.tp_model.specs.Words.no
 use Rattle.tp_model.specs.Words.vote
-use Rattle.tp_model.specs.Words.{Answer, DoneReply, Letter, Mail, No, PrepareRequest, Query, QueryRequest, Scenario, ServerId, Settled, TxnId}
-use Rattle.tp_model.specs.Deeds.{deed_of}
-use Rattle.tp_types.proofs.EachLemmas.{each_found, each_more, placed_emptied, placed_set}
-use Rattle.tp_types.specs.Each.{Each}
-use Rattle.tp_server.proofs.Rows.{AreRightWaits, IsAsking, IsFirstHere, IsFurther, IsLateRequest, IsLost, IsLostVote, IsResumed, server_by, unwaiting}
-use Rattle.tp_server.specs.declared.server.Entry.{Entry}
+use Rattle.tp_lock.specs.declared.entry.Grant.{Grant}
+use Rattle.tp_server.proofs.Rows.{AreRightWaits, IsAsking, IsFirstHere, IsFurther, IsLateRequest, IsLost, IsLostValidation, IsLostVote, IsResumed, refusing, server_by, unwaiting}
 use Rattle.tp_server.specs.Row as server
 use Rattle.tp_server.specs.State.{Server}
+use Rattle.tp_server.specs.Verdicts.{with_wants}
+use Rattle.tp_server.specs.declared.server.Entry.{Entry}
 use Rattle.tp_runs.proofs.epochs.Server.{has_restarted}
 use Rattle.tp_runs.proofs.restarts.Counted.{boots_by}
 use Rattle.tp_runs.proofs.restarts.Since.{DoneSince, EntriesSince, EntrySince, LetterSince, RecordSince}
@@ -32,6 +33,7 @@ pub record IsKnownMail (S : TxnId → ServerId → ℕ → Type 0) (R : TxnId �
   pub present : (q : QueryRequest) → mail.letter.body ≡ body.Query q → S q.txn s.server s.epoch
   pub lost : (q : QueryRequest) → IsLost s mail q → R q.txn s.server
   pub lost_vote : (p : PrepareRequest) → IsLostVote s mail p → R p.txn s.server
+  pub lost_show : (v : ValidateRequest) → IsLostValidation s mail v → R v.txn s.server
   pub refused : (p : PrepareRequest) (settled : Settled) → IsLateRequest s mail p settled no.Restarted → R p.txn s.server
 
 -- an entry at which a query asks
@@ -93,6 +95,7 @@ server_row_since S R sc s mail waits h known =
     server_by sc s mail (RowSince S R s.server) waits
     (record {
       relocked = λ effect locks k. record { entries = k.entries; forces = k.forces; no_boot = k.no_boot; letters = k.letters };
+      relearnt = λ effect admin pin k. record { entries = k.entries; forces = k.forces; no_boot = k.no_boot; letters = k.letters };
       ignored = still_since S R s [] h tt;
       ran = λ q query entry value proof k r.
           let was : EntrySince S R s.server q.txn.0 entry = asked_since S R sc s mail q query entry value h known k in
@@ -105,6 +108,7 @@ server_row_since S R sc s mail waits h known =
             letters = (given_since S R s.server q entry said refl was, tt);
           };
       denied = λ q query entry value verdict k d. answers_since S R s q entry (answer.Denied verdict) refl h (asked_since S R sc s mail q query entry value h known k);
+      outdated = λ q query entry value newer k e. answers_since S R s q entry (answer.Newer newer) refl h (asked_since S R sc s mail q query entry value h known k);
       waited = λ q query entry value k.
           let was : EntrySince S R s.server q.txn.0 entry = asked_since S R sc s mail q query entry value h known k in
           entry_since S R s q (record entry { waiting = Some q }) [] h (record { epoch = was.epoch; answers = was.answers }) tt;
@@ -112,7 +116,7 @@ server_row_since S R sc s mail waits h known =
       restarted = λ q k. still_since S R s _ h (record { epoch = known.present q k.said_is; shown = λ e. known.lost q k }, tt);
       answered = λ q entry given k.
           still_since S R s _ h (each_found (DoneSince S R s.server) (λ (d : DoneReply). d.query == q.query) entry.answers given (h q.txn.0 entry k.found).answers k.given_is, tt);
-      voted = λ p entry staple txn k.
+      voted = λ p entry verdicts k.
           let was : EntrySince S R s.server p.txn.0 entry = h p.txn.0 entry k.found in
           record {
             entries = placed_set (EntrySince S R s.server) s.entries p.txn.0 _ h (record { epoch = was.epoch; answers = was.answers });
@@ -120,6 +124,8 @@ server_row_since S R sc s mail waits h known =
             no_boot = refl;
             letters = (λ e. absurd (cc), tt);
           };
+      shown = λ v entry txn k. still_since S R (with_wants s v.want) _ h (λ e. absurd (cc), tt);
+      lost_verdicts = λ v k. still_since S R s _ h (λ e. known.lost_show v k, tt);
       voted_again = λ p entry cast k. still_since S R s _ h (λ e. absurd (cc), tt);
       refused = λ p entry number value k. closes_since S R s (server.refused_as p _) (server.no_letter s p _) h (λ e. absurd (cc)) (λ e. absurd (cc));
       lost = λ p k. closes_since S R s (server.refused_as p _) (server.no_letter s p _) h (λ e. known.lost_vote p k) (λ e. known.lost_vote p k);
@@ -131,10 +137,16 @@ server_row_since S R sc s mail waits h known =
           let said = server.ran_as (deed_of q.query query value) proof in
           let after = resumed_since S R sc s.server effect grant q query entry value said refl k now in
           record { entries = placed_set (EntrySince S R s.server) effect.state.entries q.txn.0 _ now.entries (record { epoch = after.answered.epoch; answers = after.answered.answers }); forces = now.forces; no_boot = now.no_boot; letters = after.letters };
-      resumed_denied = λ effect grant q query entry value verdict k d now.
-          let after = resumed_since S R sc s.server effect grant q query entry value (answer.Denied verdict) refl k now in
-          record { entries = placed_set (EntrySince S R s.server) effect.state.entries q.txn.0 _ now.entries after.answered; forces = now.forces; no_boot = now.no_boot; letters = after.letters };
+      resumed_denied = λ effect grant q query entry value verdict k d now. refused_since effect grant q query entry value (answer.Denied verdict) refl k now;
+      resumed_outdated = λ effect grant q query entry value newer k e now. refused_since effect grant q query entry value (answer.Newer newer) refl k now;
     })
   where
+    -- what waited is given an answer that ends its transaction
+    refused_since : (effect : Effect Server) (grant : Grant) (q : QueryRequest) (query : Query) (entry : Entry) (value : ℤ) (said : Answer) → has_restarted said ≡ false → IsResumed sc s.server effect.state grant q query entry value
+        → RowSince S R s.server effect → RowSince S R s.server (server.followed_by effect (refusing effect.state q entry said))
+    refused_since effect grant q query entry value said stays k now =
+        let after = resumed_since S R sc s.server effect grant q query entry value said stays k now in
+        record { entries = placed_set (EntrySince S R s.server) effect.state.entries q.txn.0 _ now.entries after.answered; forces = now.forces; no_boot = now.no_boot; letters = after.letters }
+
     same_why : (why : No) → vote.No why ≡ vote.No no.Restarted → why ≡ no.Restarted
     same_why why e = cc

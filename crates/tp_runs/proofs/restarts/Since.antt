@@ -1,6 +1,9 @@
 -- What is said of epochs and restarts: S says which epochs of a server were begun after which transactions were
 -- submitted, and R of which transactions a server is shown to have crashed since.
 use Rattle.std.proofs.Common.{IfSome, None, Option, Some, true, ℕ, ◌≡◌}
+use Rattle.tp_types.proofs.EachLemmas.{each_as}
+use Rattle.tp_types.specs.Each.{Each, EachPlaced}
+use Rattle.tp_model.specs.Words.{Actor, Body, Cause, Decision, DoneReply, Letter, Prepared, QueryRequest, Record, ServerId, Settled, TxnId, VerdictsReply, VoteReply, What}
 use Rattle.tp_model.specs.Words.actor
 use Rattle.tp_model.specs.Words.body
 use Rattle.tp_model.specs.Words.cause
@@ -9,14 +12,11 @@ use Rattle.tp_model.specs.Words.log
 use Rattle.tp_model.specs.Words.no
 use Rattle.tp_model.specs.Words.vote
 use Rattle.tp_model.specs.Words.what
-use Rattle.tp_model.specs.Words.{Actor, Body, Cause, Decision, DoneReply, Letter, Prepared, QueryRequest, Record, ServerId, Settled, TxnId, VoteReply, What}
-use Rattle.tp_recover.specs.Log.{prepared_in, settled_in}
-use Rattle.tp_machine.specs.Parts.{Part}
-use Rattle.tp_types.proofs.EachLemmas.{each_as}
-use Rattle.tp_types.specs.Each.{Each, EachPlaced}
 use Rattle.tp_coord.specs.State.{Coordinator}
-use Rattle.tp_server.specs.declared.server.Entry.{Entry}
+use Rattle.tp_machine.specs.Parts.{Part}
+use Rattle.tp_recover.specs.Log.{prepared_in, settled_in}
 use Rattle.tp_server.specs.State.{Server}
+use Rattle.tp_server.specs.declared.server.Entry.{Entry}
 use Rattle.tp_runs.proofs.basics.Ids.{server_number, txn_number}
 use Rattle.tp_runs.proofs.epochs.Server.{has_restarted}
 
@@ -45,11 +45,17 @@ abbrev pub VotedSince : (TxnId → ServerId → Type 0) → Actor → VoteReply 
 VotedSince R (actor.Server at) reply = reply.vote ≡ vote.No no.Restarted → R reply.txn at
 VotedSince R _ reply = Unit {0}
 
+-- and so has an answer that what was to be evaluated is lost
+abbrev pub ShownSince : (TxnId → ServerId → Type 0) → Actor → VerdictsReply → Type 0
+ShownSince R (actor.Server at) reply = reply.verdicts ≡ None → R reply.txn at
+ShownSince R _ reply = Unit {0}
+
 abbrev pub BodySince : (TxnId → ServerId → ℕ → Type 0) → (TxnId → ServerId → Type 0) → Actor → Actor → Body → Type 0
 BodySince S R from to (body.Query q) = QuerySince S to q
 BodySince S R from to (body.Validate v) = NamedSince S to v.txn v.epoch
 BodySince S R from to (body.Prepare p) = NamedSince S to p.txn p.epoch
 BodySince S R from to (body.Done done) = AnsweredSince S R from done
+BodySince S R from to (body.Verdicts reply) = ShownSince R from reply
 BodySince S R from to (body.Vote reply) = VotedSince R from reply
 BodySince S R from to _ = Unit {0}
 
@@ -144,11 +150,16 @@ vote_widens : (R Q : TxnId → ServerId → Type 0) (from : Actor) (reply : Vote
 vote_widens R Q (actor.Server at) reply shown h = λ restarted. shown reply.txn at (h restarted)
 vote_widens R Q _ reply shown h = tt
 
+shown_widens : (R Q : TxnId → ServerId → Type 0) (from : Actor) (reply : VerdictsReply) → MoreShown R Q → ShownSince R from reply → ShownSince Q from reply
+shown_widens R Q (actor.Server at) reply shown h = λ lost. shown reply.txn at (h lost)
+shown_widens R Q _ reply shown h = tt
+
 pub body_widens : (S T : TxnId → ServerId → ℕ → Type 0) (R Q : TxnId → ServerId → Type 0) (from to : Actor) (said : Body) → MoreSince S T → MoreShown R Q → BodySince S R from to said → BodySince T Q from to said
 body_widens S T R Q from to (body.Query q) more shown h = query_widens S T to q more h
 body_widens S T R Q from to (body.Validate v) more shown h = request_widens S T to v.txn v.epoch more h
 body_widens S T R Q from to (body.Prepare p) more shown h = request_widens S T to p.txn p.epoch more h
 body_widens S T R Q from to (body.Done done) more shown h = answer_widens S T R Q from done more shown h
+body_widens S T R Q from to (body.Verdicts reply) more shown h = shown_widens R Q from reply shown h
 body_widens S T R Q from to (body.Vote reply) more shown h = vote_widens R Q from reply shown h
 body_widens S T R Q from to _ more shown h = tt
 

@@ -1,56 +1,59 @@
 -- Restarts over every list of steps.
 use Rattle.std.proofs.Common.{IfSome, List, None, Option, Some, [], ap, append-nil, arith, is_none, length, refl, subst, sym, true, ℕ, ◌+◌, ◌<◌, ◌∙◌, ◌∷◌, ◌≡◌}
+use Rattle.tp_types.proofs.EachLemmas.{each_get, placed_none, some_value}
+use Rattle.tp_types.specs.Each.{Each}
 use Rattle.tp_model.specs.Agreement.{has_item_at}
 use Rattle.tp_model.specs.Causes.{crashed_within, is_server_actor}
+use Rattle.tp_model.specs.Words.{Actor, Body, Cause, DoneReply, Fact, Mail, PrepareRequest, QueryRequest, Scenario, ServerId, Settled, Step, TxnId, ValidateRequest, VerdictsReply, VoteReply, What}
 use Rattle.tp_model.specs.Words.actor
 use Rattle.tp_model.specs.Words.body
 use Rattle.tp_model.specs.Words.no
 use Rattle.tp_model.specs.Words.step
 use Rattle.tp_model.specs.Words.what
-use Rattle.tp_model.specs.Words.{Actor, Body, Cause, DoneReply, Fact, Mail, PrepareRequest, QueryRequest, Scenario, ServerId, Settled, Step, TxnId, VoteReply, What}
+use Rattle.tp_coord.proofs.Rows.{ByDenial, ByLoss, ByLostVerdicts, ByNewer, ByNewest, ByOlder, ByProof, ByRefusal, ByRestart, ByRounds, IsEnded}
+use Rattle.tp_coord.specs.Opened as coord_opened
+use Rattle.tp_coord.specs.Row.{coordinator_row, reading_of, repeats, submit_row}
+use Rattle.tp_coord.specs.State.{Coordinator}
 use Rattle.tp_machine.specs.Logs.{epoch_at}
 use Rattle.tp_machine.specs.Machine.{Machine, State, acts_by, coordinator_fact, coordinator_move, idle_move, machine_after, opened_part, opening_state, refusal, server_fact, server_move, with_age}
 use Rattle.tp_machine.specs.Named.{IsStepOf}
 use Rattle.tp_machine.specs.Parts.{Part}
-use Rattle.tp_types.proofs.EachLemmas.{each_get, placed_none, some_value}
-use Rattle.tp_types.specs.Each.{Each}
-use Rattle.tp_coord.specs.Opened as coord_opened
-use Rattle.tp_coord.specs.Row.{coordinator_row, repeats, submit_row}
-use Rattle.tp_coord.specs.State.{Coordinator}
-use Rattle.tp_coord.proofs.Rows.{ByDenial, ByLoss, ByOlder, ByProof, ByRefusal, ByRestart, ByRounds, IsEnded}
-use Rattle.tp_server.proofs.Rows.{IsLateRequest, IsLost, IsLostVote}
-use Rattle.tp_server.specs.Opened as server_opened
-use Rattle.tp_server.specs.Row.{age_of, server_row}
-use Rattle.tp_server.specs.State.{Server}
 use Rattle.tp_offices.specs.Authority as office
 use Rattle.tp_offices.specs.Master as master
 use Rattle.tp_offices.specs.declared.authority.Authority.{Authority}
 use Rattle.tp_offices.specs.declared.master.Master.{Master}
+use Rattle.tp_server.proofs.Rows.{IsLateRequest, IsLost, IsLostValidation, IsLostVote}
+use Rattle.tp_server.specs.Opened as server_opened
+use Rattle.tp_server.specs.Row.{age_of, server_row}
+use Rattle.tp_server.specs.State.{Server}
 use Rattle.tp_runs.proofs.ages.Actors.{BodyAged}
 use Rattle.tp_runs.proofs.ages.World.{Ages, IsSubmission, MailAged}
+use Rattle.tp_runs.proofs.agreement.Coordinator.{CoordinatorAgrees, HoldsItem, PhaseHasItems, asked_has_item}
 use Rattle.tp_runs.proofs.agreement.Logs.{once}
-use Rattle.tp_runs.proofs.agreement.Coordinator.{asked_has_item}
 use Rattle.tp_runs.proofs.agreement.Steps.{mail_sound, no_settled, own_server, own_txn, server_agrees, settled_item}
-use Rattle.tp_runs.proofs.agreement.World.{Agrees, MailRests}
+use Rattle.tp_runs.proofs.agreement.World.{Agrees, CoordinatorUpAgrees, MailRests}
 use Rattle.tp_runs.proofs.basics.Crashes.{shown_more}
 use Rattle.tp_runs.proofs.basics.Found.{of_some}
+use Rattle.tp_runs.proofs.basics.Homes.{HaveHomes}
 use Rattle.tp_runs.proofs.basics.Ids.{server_number, txn_number}
+use Rattle.tp_runs.proofs.basics.Passed.{read_newer}
 use Rattle.tp_runs.proofs.basics.Phases.{is_undecided}
+use Rattle.tp_runs.proofs.basics.Rounds.{awaited_holds}
 use Rattle.tp_runs.proofs.deaths.Told.{Told}
 use Rattle.tp_runs.proofs.deaths.World.{Deaths}
 use Rattle.tp_runs.proofs.epochs.Asked.{asked_in}
 use Rattle.tp_runs.proofs.epochs.Kept.{CoordinatorKeeps, KeepsEpoch, PhaseKept, from_server}
 use Rattle.tp_runs.proofs.epochs.Server.{ServerMade, has_restarted}
-use Rattle.tp_runs.proofs.epochs.World.{Epochs, made_from_zero}
+use Rattle.tp_runs.proofs.epochs.World.{Epochs, coordinator_sends_keep, made_from_zero}
 use Rattle.tp_runs.proofs.known.World.{Pairs, declared_by}
 use Rattle.tp_runs.proofs.pairs.Actors.{BodyPairs, LetterPairs, pair_at, site_of}
-use Rattle.tp_runs.proofs.pairs.Fits.{Covers, PrepareFits, QueryFits, Tells}
+use Rattle.tp_runs.proofs.pairs.Fits.{Covers, PrepareFits, QueryFits, Tells, ValidateFits}
 use Rattle.tp_runs.proofs.pairs.Site.{count}
 use Rattle.tp_runs.proofs.restarts.Coordinators.{ActSince, coordinator_row_since, repeats_since, submit_row_since}
 use Rattle.tp_runs.proofs.restarts.Counted.{IsCounted, since_made}
 use Rattle.tp_runs.proofs.restarts.Servers.{IsKnownMail, RowSince, server_row_since}
 use Rattle.tp_runs.proofs.restarts.Shown.{other_epoch, restart_shown}
-use Rattle.tp_runs.proofs.restarts.Since.{BodySince, CauseSince, DoneSince, EntriesSince, EntrySince, KeptSince, LetterSince, PartSince, QuerySince, VotedSince}
+use Rattle.tp_runs.proofs.restarts.Since.{BodySince, CauseSince, DoneSince, EntriesSince, EntrySince, KeptSince, LetterSince, PartSince, QuerySince, ShownSince, VotedSince}
 use Rattle.tp_runs.proofs.restarts.World.{IsHalted, MailSince, MoveSince, Restarts, ShownIn, SinceIn, WasLostAt, coordinator_acts_since, server_acts_since, state_after_since, still_since}
 use Rattle.tp_runs.proofs.walks.Steps.{Cases, IsCoordinatorUp, IsServerUp, KeepsUp, SaysIdle, WaitRightly, WasSent, machine_after_by}
 use Rattle.tp_runs.specs.Sound.{IsSound, IsSoundBody, IsSoundQuery}
@@ -100,6 +103,15 @@ lost_vote_shown sc w n mail at part s p sound a pairs told h sent up k =
     restart_shown sc w at part s p.txn p.epoch (Covers (site_of sc at.0 there.0) (count (site_of sc at.0 there.0))) a told h up k.unsettled k.elsewhere
     (subst (BodySince (SinceIn w.steps w.facts) (ShownIn w.facts mail.sent) mail.letter.from (actor.Server at)) k.said_is (heard_since sc w n mail at h sent)) fits.covers
 
+-- where what a request to evaluate is about was lost
+lost_show_shown : (sc : Scenario) (w : State) (n : ℕ) (mail : Mail) (at : ServerId) (part : Part Server) (s : Server) (v : ValidateRequest) → IsSound sc w → Agrees sc w → Pairs sc w → Told w → Restarts sc w → WasSent w n mail (actor.Server at)
+    → IsServerUp w at part s → IsLostValidation s mail v → ShownIn w.facts (length w.steps) v.txn at
+lost_show_shown sc w n mail at part s v sound a pairs told h sent up k =
+    let there = declared_by sc v.txn (subst (IsSoundBody sc (actor.Server at)) k.said_is (mail_sound sc w n mail (actor.Server at) sound sent)).txn in
+    let fits : ValidateFits (site_of sc at.0 there.0) (pair_at w.actors v.txn at.0) v = subst (BodyPairs sc (pair_at w.actors) mail.letter.from (actor.Server at)) k.said_is (heard_pairs sc w n mail at pairs sent) there.0 there.1 in
+    restart_shown sc w at part s v.txn v.epoch (λ deeds. Unit {0}) a told h up k.unsettled k.elsewhere
+    (subst (BodySince (SinceIn w.steps w.facts) (ShownIn w.facts mail.sent) mail.letter.from (actor.Server at)) k.said_is (heard_since sc w n mail at h sent)) fits.told
+
 -- where the server has settled a transaction for a restart
 settled_shown : (sc : Scenario) (w : State) (mail : Mail) (at : ServerId) (part : Part Server) (s : Server) (p : PrepareRequest) (settled : Settled) → Agrees sc w → Restarts sc w → IsServerUp w at part s
     → IsLateRequest s mail p settled no.Restarted → ShownIn w.facts (length w.steps) p.txn at
@@ -113,6 +125,7 @@ mail_known sc w n mail at part s sound a epochs ages pairs told h sent up own =
       present = λ q e. subst (λ (x : ServerId). SinceIn w.steps w.facts q.txn x s.epoch) (sym own) (present_since sc w n mail at part s q epochs ages h sent up e);
       lost = λ q k. subst (ShownIn w.facts (length w.steps) q.txn) (sym own) (lost_shown sc w n mail at part s q sound a pairs told h sent up k);
       lost_vote = λ p k. subst (ShownIn w.facts (length w.steps) p.txn) (sym own) (lost_vote_shown sc w n mail at part s p sound a pairs told h sent up k);
+      lost_show = λ v k. subst (ShownIn w.facts (length w.steps) v.txn) (sym own) (lost_show_shown sc w n mail at part s v sound a pairs told h sent up k);
       refused = λ p settled k. subst (ShownIn w.facts (length w.steps) p.txn) (sym own) (settled_shown sc w mail at part s p settled a h up k);
     }
 
@@ -156,13 +169,16 @@ round_kept sc w txn part c epochs up undecided =
 own_vote_in_restarts : (txn : TxnId) (reply : VoteReply) → actor.Coordinator txn ≡ actor.Coordinator reply.txn → reply.txn ≡ txn
 own_vote_in_restarts txn reply e = cc
 
+own_verdicts_in_restarts : (txn : TxnId) (reply : VerdictsReply) → actor.Coordinator txn ≡ actor.Coordinator reply.txn → reply.txn ≡ txn
+own_verdicts_in_restarts txn reply e = cc
+
 own_done_in_restarts : (txn : TxnId) (done : DoneReply) → actor.Coordinator txn ≡ actor.Coordinator done.txn → done.txn ≡ txn
 own_done_in_restarts txn done e = cc
 
 -- an abort for a restart is shown by the answer or the vote that it came of, which was sent after the crash
 ended_shown : (sc : Scenario) (w : State) (n : ℕ) (mail : Mail) (txn : TxnId) (c : Coordinator) → IsSound sc w → Agrees sc w → Deaths sc w → Restarts sc w → WasSent w n mail (actor.Coordinator txn) → c.txn ≡ txn
-    → (why : Cause) → IsEnded sc c mail why → CauseSince (WasLostAt sc w.facts (length w.steps)) (IsHalted w.facts (length w.steps)) c.txn why
-ended_shown sc w n mail txn c sound a deaths h sent same why ended = shown why ended
+    → PhaseHasItems sc c.txn c.phase → (why : Cause) → IsEnded sc c mail why → CauseSince (WasLostAt sc w.facts (length w.steps)) (IsHalted w.facts (length w.steps)) c.txn why
+ended_shown sc w n mail txn c sound a deaths h sent same items why ended = shown why ended
   where
     S : TxnId → ServerId → ℕ → Type 0
     S = SinceIn w.steps w.facts
@@ -186,9 +202,13 @@ ended_shown sc w n mail txn c sound a deaths h sent same why ended = shown why e
     shown : (why : Cause) → IsEnded sc c mail why → CauseSince (WasLostAt sc w.facts (length w.steps)) (IsHalted w.facts (length w.steps)) c.txn why
     shown _ (ByOlder done server asked other k) = tt
     shown _ (ByDenial done server asked verdict k) = tt
-    shown _ (ByProof round staple reading verdict j e) = tt
-    shown _ (ByRounds reply round mets k e) = tt
-    shown _ (ByRefusal reply round staple server number value k) = tt
+    shown _ (ByNewer done server asked newer k) = tt
+    shown _ (ByNewest reply at why k older) =
+        let found = read_newer c (reading_of reply mail.sent) why older in
+        subst (CauseSince (WasLostAt sc w.facts (length w.steps)) (IsHalted w.facts (length w.steps)) c.txn) (sym found.1) tt
+    shown _ (ByProof over round staple reading verdict j e) = tt
+    shown _ (ByRounds reply over round mets k e) = tt
+    shown _ (ByRefusal reply server number value k) = tt
     shown _ (ByRestart done server asked k) =
         let own : done.txn ≡ c.txn = own_done_in_restarts txn done (subst (IsSoundBody sc (actor.Coordinator txn)) k.said_is says).goes_to ∙ sym same in
         let told : DoneSince S (ShownIn w.facts mail.sent) server done = heard (body.Done done) server k.said_is (from_server mail.letter.from server k.from_is) in
@@ -196,7 +216,14 @@ ended_shown sc w n mail txn c sound a deaths h sent same why ended = shown why e
           item = asked_has_item sc c done.query asked server k.asked_is k.server_is;
           crashed = subst (λ (t : TxnId). ShownIn w.facts (length w.steps) t server) own (by_now done.txn server (told.shown (ap has_restarted k.answer_is)));
         }
-    shown _ (ByLoss reply round staple server k) =
+    shown _ (ByLostVerdicts reply number round staple server k) =
+        let own : reply.txn ≡ c.txn = own_verdicts_in_restarts txn reply (subst (IsSoundBody sc (actor.Coordinator txn)) k.said_is says).goes_to ∙ sym same in
+        let told : ShownSince (ShownIn w.facts mail.sent) (actor.Server server) reply = heard (body.Verdicts reply) server k.said_is k.from_is in
+        record {
+          item = awaited_holds (HoldsItem sc c.txn) round.targets server (subst (PhaseHasItems sc c.txn) k.checking items) k.awaited;
+          crashed = subst (λ (t : TxnId). ShownIn w.facts (length w.steps) t server) own (by_now reply.txn server (told k.verdicts_are));
+        }
+    shown _ (ByLoss reply server k) =
         let own : reply.txn ≡ c.txn = own_vote_in_restarts txn reply (subst (IsSoundBody sc (actor.Coordinator txn)) k.said_is says).goes_to ∙ sym same in
         let told : VotedSince (ShownIn w.facts mail.sent) (actor.Server server) reply = heard (body.Vote reply) server k.said_is k.from_is in
         let settled = no_settled sc w mail.letter.from mail.letter.to mail.letter.body reply server no.Restarted (each_get (MailRests sc w.actors) w.mails n mail a.mails sent.sent) k.said_is k.from_is k.vote_is in
@@ -206,26 +233,28 @@ ended_shown sc w n mail txn c sound a deaths h sent same why ended = shown why e
         }
 
 -- the row of a coordinator on a mail that was sent
-pub coordinator_sends_since : (sc : Scenario) (w : State) → IsSound sc w → Agrees sc w → Epochs sc w → Deaths sc w → Restarts sc w → (n : ℕ) (mail : Mail) (txn : TxnId) (part : Part Coordinator) (c : Coordinator)
+pub coordinator_sends_since : (sc : Scenario) (w : State) → HaveHomes sc → IsSound sc w → Agrees sc w → Epochs sc w → Deaths sc w → Restarts sc w → (n : ℕ) (mail : Mail) (txn : TxnId) (part : Part Coordinator) (c : Coordinator)
     → WasSent w n mail (actor.Coordinator txn) → IsCoordinatorUp w txn part c
     → ActSince (SinceIn w.steps w.facts) (ShownIn w.facts (length w.steps)) (WasLostAt sc w.facts (length w.steps)) (IsHalted w.facts (length w.steps)) c.txn (coordinator_row sc c mail)
-coordinator_sends_since sc w sound a epochs deaths h n mail txn part c sent up =
+coordinator_sends_since sc w homes sound a epochs deaths h n mail txn part c sent up =
     let S = SinceIn w.steps w.facts in
     let L = WasLostAt sc w.facts (length w.steps) in
     let H = IsHalted w.facts (length w.steps) in
     let same : c.txn ≡ txn = own_txn sc w txn part c sound up.found up.up in
     let heard : IsSoundBody sc (actor.Coordinator txn) mail.letter.body = mail_sound sc w n mail (actor.Coordinator txn) sound sent in
+    let agrees : CoordinatorAgrees sc c part.log = (subst (λ (u : Option Coordinator). IfSome u (CoordinatorUpAgrees sc w.actors.servers txn part.log)) up.up (a.coordinators txn.0 part up.found).state).agrees in
     coordinator_row_since S (ShownIn w.facts mail.sent) (ShownIn w.facts (length w.steps)) L H sc c mail (kept_here sc w txn part c h up same) (round_kept sc w txn part c epochs up)
     (each_get (MailSince w.steps w.facts) w.mails n mail h.mails sent.sent)
     (λ done e. own_done_in_restarts txn done (subst (IsSoundBody sc (actor.Coordinator txn)) e heard).goes_to ∙ sym same)
-    (ended_shown sc w n mail txn c sound a deaths h sent same)
+    (ended_shown sc w n mail txn c sound a deaths h sent same agrees.awaited)
+    (λ undecided. ((coordinator_sends_keep sc w homes sound a epochs n mail txn part c sent up).keeps.undecided undecided).round)
 
-receipt_by_coordinator_in_restarts : (sc : Scenario) (w : State) (n : ℕ) (mail : Mail) (txn : TxnId) (part : Part Coordinator) (c : Coordinator) → IsSound sc w → Agrees sc w → Epochs sc w → Deaths sc w → Restarts sc w
+receipt_by_coordinator_in_restarts : (sc : Scenario) (w : State) (n : ℕ) (mail : Mail) (txn : TxnId) (part : Part Coordinator) (c : Coordinator) → HaveHomes sc → IsSound sc w → Agrees sc w → Epochs sc w → Deaths sc w → Restarts sc w
     → WasSent w n mail (actor.Coordinator txn) → IsCoordinatorUp w txn part c → MoveSince sc w (coordinator_move w.actors txn (acts_by coordinator_fact [] part.log (coordinator_row sc c mail)))
-receipt_by_coordinator_in_restarts sc w n mail txn part c sound a epochs deaths h sent up =
+receipt_by_coordinator_in_restarts sc w n mail txn part c homes sound a epochs deaths h sent up =
     let same : c.txn ≡ txn = own_txn sc w txn part c sound up.found up.up in
     let effect = coordinator_row sc c mail in
-    let row = coordinator_sends_since sc w sound a epochs deaths h n mail txn part c sent up in
+    let row = coordinator_sends_since sc w homes sound a epochs deaths h n mail txn part c sent up in
     coordinator_acts_since sc w txn part.log (Some effect.state) [] effect.reaction.append effect.reaction.letters h
     (record { state = subst (λ (t : TxnId). KeptSince (SinceIn w.steps w.facts) t effect.state) same row.kept; letters_are = row.letters; servers = λ other. refl; down = λ down. absurd (cc); own_says = λ facts. tt; forces = row.forces })
 
@@ -266,14 +295,14 @@ idle_since sc w _ happened h e = absurd e
 
 -- ---- steps
 
-restarts_cases : (sc : Scenario) (w : State) → WaitRightly sc w → IsSound sc w → Agrees sc w → Epochs sc w → Ages w → Pairs sc w → Deaths sc w → Restarts sc w → Cases sc w (λ taken move. MoveSince sc w move)
-restarts_cases sc w rightly sound a epochs ages pairs deaths h =
+restarts_cases : (sc : Scenario) (w : State) → HaveHomes sc → WaitRightly sc w → IsSound sc w → Agrees sc w → Epochs sc w → Ages w → Pairs sc w → Deaths sc w → Restarts sc w → Cases sc w (λ taken move. MoveSince sc w move)
+restarts_cases sc w homes rightly sound a epochs ages pairs deaths h =
     let S = SinceIn w.steps w.facts in
     let R = ShownIn w.facts (length w.steps) in
     record {
       idle = λ taken happened e. idle_since sc w taken happened h e;
       server_received = λ n mail at part s sent up. receipt_by_server_in_restarts sc w n mail at part s rightly sound a epochs ages pairs deaths.told h sent up;
-      coordinator_received = λ n mail txn part c sent up. receipt_by_coordinator_in_restarts sc w n mail txn part c sound a epochs deaths h sent up;
+      coordinator_received = λ n mail txn part c sent up. receipt_by_coordinator_in_restarts sc w n mail txn part c homes sound a epochs deaths h sent up;
       authority_told = λ n mail sent. still_since sc w w.actors [] (office.authority_row w.actors.authority mail).reaction.letters h refl refl (λ other. refl) (λ facts. tt) (tells_no_epoch S R w.actors.authority mail.letter.body);
       master_told = λ n mail sent. still_since sc w w.actors [] (master.master_row w.actors.master mail).reaction.letters h refl refl (λ other. refl) (λ facts. tt) (newest_no_epoch S R w.actors.master mail.letter.body);
       published = λ admin exists more.
@@ -286,10 +315,10 @@ restarts_cases sc w rightly sound a epochs ages pairs deaths h =
     }
 
 -- a step that is not refused keeps what is said of restarts
-pub restarts_next : (sc : Scenario) (m : Machine) (taken : Step) → IsStepOf sc taken → KeepsUp taken → refusal m.state taken ≡ None → WaitRightly sc m.state → IsSound sc m.state → Agrees sc m.state → Epochs sc m.state → Ages m.state → Pairs sc m.state
+pub restarts_next : (sc : Scenario) (m : Machine) (taken : Step) → HaveHomes sc → IsStepOf sc taken → KeepsUp taken → refusal m.state taken ≡ None → WaitRightly sc m.state → IsSound sc m.state → Agrees sc m.state → Epochs sc m.state → Ages m.state → Pairs sc m.state
     → Deaths sc m.state → Restarts sc m.state → Restarts sc (machine_after sc m taken).state
-restarts_next sc m taken exists stays allowed rightly sound a epochs ages pairs deaths h =
-    machine_after_by sc m (λ taken_is move. MoveSince sc m.state move) (Restarts sc) (restarts_cases sc m.state rightly sound a epochs ages pairs deaths h) a.coordinator_count
+restarts_next sc m taken homes exists stays allowed rightly sound a epochs ages pairs deaths h =
+    machine_after_by sc m (λ taken_is move. MoveSince sc m.state move) (Restarts sc) (restarts_cases sc m.state homes rightly sound a epochs ages pairs deaths h) a.coordinator_count
     (λ taken_is move t. state_after_since sc m.state taken_is move h t) taken exists stays allowed
 
 -- before the first step nobody has crashed, and nobody keeps an epoch

@@ -8,7 +8,6 @@ use Rattle.tp_model.specs.Outside.{IsOutside}
 use Rattle.tp_model.specs.SerialRun.{is_serial}
 use Rattle.tp_model.specs.Trust.{is_trusted}
 use Rattle.tp_model.specs.Words.{Fact, Scenario, Step}
-use Rattle.tp_runs.proofs.trust.Built.{are_built}
 use Rattle.tp_runs.proofs.ids.Valid.{IsValid, valid_built}
 use Rattle.tp_runs.proofs.ages.World.{Ages, ages_next, ages_opening}
 use Rattle.tp_runs.proofs.deaths.World.{Deaths, deaths_next, deaths_opening}
@@ -99,7 +98,7 @@ holds_running sc m taken built exists stays allowed h =
       epochs = epochs_next sc m taken (have_homes sc valid) exists stays allowed rightly h.sound h.agrees h.epochs;
       ages = ages_next sc m taken exists stays allowed rightly h.sound h.agrees h.ages;
       deaths = deaths_next sc m taken exists stays allowed rightly h.sound h.agrees h.ages h.pairs h.deaths;
-      restarts = restarts_next sc m taken exists stays allowed rightly h.sound h.agrees h.epochs h.ages h.pairs h.deaths h.restarts;
+      restarts = restarts_next sc m taken (have_homes sc valid) exists stays allowed rightly h.sound h.agrees h.epochs h.ages h.pairs h.deaths h.restarts;
       lone = lone_next sc m taken exists stays allowed h.agrees.coordinator_count h.agrees.past h.lone;
       outside = outside_next sc m taken exists stays allowed h.agrees.coordinator_count h.agrees.past h.trusts.master h.outside;
       trusts = trusts_next sc m taken built exists stays allowed rightly h.sound h.agrees h.pairs h.trusts;
@@ -108,7 +107,7 @@ holds_running sc m taken built exists stays allowed h =
       refusals = refusals_next sc m taken valid exists stays allowed rightly h.sound h.agrees h.pairs h.serial (record { epochs = h.epochs; told = h.deaths.told; restarts = h.restarts }) h.refusals;
       bounds = bounds_next sc m taken valid exists stays allowed rightly h.sound named h.agrees h.pairs h.serial h.bounds;
       few = few_next sc m taken built exists stays allowed rightly h.agrees h.few;
-      sizes = sizes_next sc m taken (are_built sc built) (have_homes sc valid) valid exists stays allowed rightly h.sound h.agrees h.pairs h.trusts h.sizes;
+      sizes = sizes_next sc m taken (have_homes sc valid) valid exists stays allowed rightly h.sound h.agrees h.pairs h.trusts h.sizes;
     }
 
 -- and after each crash and each boot
@@ -120,12 +119,12 @@ holds_crashed sc w built h =
     let known : Remembers sc w = record { epochs = h.epochs; told = h.deaths.told; restarts = h.restarts } in
     let ids = crash_cases_both (sound_crashed sc w valid rightly h.sound) (agrees_crashed sc w valid rightly h.sound named h.agrees) in
     let epochs = crash_cases_both (epochs_crashed sc w rightly h.sound h.epochs) (ages_crashed sc w rightly h.sound h.ages) in
-    let deaths = crash_cases_both (deaths_crashed sc w h.sound h.agrees h.deaths) (restarts_crashed sc w rightly h.sound h.agrees h.epochs h.ages h.pairs h.deaths h.restarts) in
+    let deaths = crash_cases_both (deaths_crashed sc w h.sound h.agrees h.deaths) (restarts_crashed sc w (have_homes sc valid) rightly h.sound h.agrees h.epochs h.ages h.pairs h.deaths h.restarts) in
     let outside = crash_cases_both (lone_crashed sc w h.agrees.past h.lone) (outside_crashed sc w h.agrees.past h.outside) in
     let trusts = crash_cases_both (trusts_crashed sc w built rightly h.sound h.agrees h.pairs h.trusts) (pairs_crashed sc w rightly h.sound h.agrees h.epochs h.pairs) in
     let serial = crash_cases_both (serial_crashed sc w valid rightly h.sound named h.agrees h.pairs h.serial) (refusals_crashed sc w valid rightly h.sound h.agrees h.pairs h.serial known h.refusals) in
     let bounds = crash_cases_both (bounds_crashed sc w valid rightly h.sound named h.agrees h.pairs h.serial h.bounds) (few_crashed sc w built h.sound h.few) in
-    let sizes = sizes_crashed sc w (are_built sc built) (have_homes sc valid) valid rightly h.sound h.agrees h.pairs h.trusts h.sizes in
+    let sizes = sizes_crashed sc w (have_homes sc valid) valid rightly h.sound h.agrees h.pairs h.trusts h.sizes in
     crash_cases_as sc w _ (λ taken move. Holds sc (state_after w taken move))
     (λ taken move t. record {
       sound = t.0.0.0.0;

@@ -1,56 +1,56 @@
 -- Serial data, an act of a coordinator: a commit has the deeds of its transaction run by itself on the store, and leaves it in range.
-use Rattle.std.specs.Option.{option_map_or, option_or}
-use Rattle.std.proofs.Common.{Bool, IfSome, List, None, Option, Some, [], ap, false, fold, if◌then◌else◌, is_some, length, option_and_then, refl, slice_get, subst, sym, true, ℕ, ℤ, ⊎_elim, ◌++◌, ◌∙◌, ◌∷◌, ◌≡◌}
+use Rattle.std.proofs.Common.{Bool, IfSome, List, None, Option, Some, [], ap, false, fold, is_some, length, option_and_then, refl, slice_get, subst, sym, true, ℕ, ℤ, ⊎_elim, if◌then◌else◌, ◌++◌, ◌∙◌, ◌∷◌, ◌≡◌}
 use Rattle.std.proofs.lemmas.List.Sums.{fold-append}
+use Rattle.std.specs.Option.{option_map_or, option_or}
+use Rattle.tp_types.proofs.EachLemmas.{each_append, each_get}
+use Rattle.tp_types.specs.Each.{Each}
 use Rattle.tp_types.specs.Effect.{Effect}
 use Rattle.tp_model.specs.Agreement.{has_item_at}
 use Rattle.tp_model.specs.SerialRun.{are_in_range, is_serial_commit, overlay, overlay_what, serial_run, store_of, with_deeds, with_what}
 use Rattle.tp_model.specs.Valid.{is_valid_txn}
+use Rattle.tp_model.specs.Words.{Cause, CommitRecord, Decided, Decision, Deed, Letter, Mail, Prepared, Record, Scenario, Transaction, TxnId, What}
 use Rattle.tp_model.specs.Words.decision
 use Rattle.tp_model.specs.Words.log
 use Rattle.tp_model.specs.Words.what
-use Rattle.tp_model.specs.Words.{Cause, CommitRecord, Decided, Decision, Deed, Instance, Letter, Mail, Prepared, Reading, Record, Scenario, Staple, Transaction, TxnId, What}
+use Rattle.tp_coord.proofs.Rows.{coordinator_by}
+use Rattle.tp_coord.specs.Opened.{servers_at}
+use Rattle.tp_coord.specs.Row.{coordinator_row}
+use Rattle.tp_coord.specs.State.{Coordinator}
+use Rattle.tp_coord.specs.declared.coordinator.Phase.{Phase}
+use Rattle.tp_coord.specs.declared.coordinator.Phase.TheVariants as phase
+use Rattle.tp_machine.specs.Logs.{decided_at, prepared_at, prepared_by, settled_at, settled_by}
+use Rattle.tp_machine.specs.Machine.{State, acts, coordinator_fact, coordinator_move, log_with}
+use Rattle.tp_machine.specs.Named.{IsTxn}
+use Rattle.tp_machine.specs.Parts.{Part}
+use Rattle.tp_recover.specs.Log.{decided_in, decision_in, prepared_in, values_in}
+use Rattle.tp_server.specs.State.{Server}
 use Rattle.tp_runs.proofs.agreement.Coordinator.{DecisionRests, IsFirst}
 use Rattle.tp_runs.proofs.agreement.CoordinatorActs.{coordinator_facts}
 use Rattle.tp_runs.proofs.agreement.Logs.{IsPrepared, prepared_open}
 use Rattle.tp_runs.proofs.agreement.World.{Agrees}
-use Rattle.tp_types.proofs.EachLemmas.{each_append, each_get}
+use Rattle.tp_runs.proofs.basics.Found.{of_some}
+use Rattle.tp_runs.proofs.basics.Homes.{decided_voted}
 use Rattle.tp_runs.proofs.basics.Logs.{appended, decided_with, gained}
+use Rattle.tp_runs.proofs.basics.Passed.{deeds_kept, voted_not_ran, voted_stands}
 use Rattle.tp_runs.proofs.basics.Phases.{Prepares, is_undecided, stand_of}
 use Rattle.tp_runs.proofs.basics.Servers.{among_servers}
-use Rattle.tp_runs.proofs.ids.Valid.{IsValid}
-use Rattle.tp_runs.proofs.pairs.Actors.{asker_by, asker_of, asker_up, pair_at, site_of}
-use Rattle.tp_runs.proofs.pairs.Fits.{AskerFits}
-use Rattle.tp_runs.proofs.basics.Found.{of_some}
-use Rattle.tp_runs.proofs.pairs.Outcomes.{prepared_for}
-use Rattle.tp_runs.proofs.known.World.{Pairs, declared_by}
 use Rattle.tp_runs.proofs.deeds.Commits.{IsClearAtHome, IsItemAt, commit_elsewhere, commit_serial, commit_store}
 use Rattle.tp_runs.proofs.deeds.Joined.{share_at}
 use Rattle.tp_runs.proofs.deeds.Lengths.{store_length}
 use Rattle.tp_runs.proofs.deeds.Ranges.{AreTested, range_at, store_within, stored_in_range}
 use Rattle.tp_runs.proofs.deeds.Reads.{ReadsFrom}
 use Rattle.tp_runs.proofs.deeds.Runs.{RunsSoFar}
+use Rattle.tp_runs.proofs.deeds.Stores.{HasPlace, StoreFits}
+use Rattle.tp_runs.proofs.ids.Valid.{IsValid}
+use Rattle.tp_runs.proofs.known.World.{Pairs, declared_by}
+use Rattle.tp_runs.proofs.pairs.Actors.{asker_by, asker_of, asker_up, pair_at, site_of}
+use Rattle.tp_runs.proofs.pairs.Fits.{AskerFits}
+use Rattle.tp_runs.proofs.pairs.Outcomes.{prepared_for}
 use Rattle.tp_runs.proofs.serial_data.Settling.{IsQuiet, quiet_facts, quiet_store, quiet_values}
 use Rattle.tp_runs.proofs.serial_data.Shares.{no_share, server_there, share_reads, shares_tested}
-use Rattle.tp_runs.proofs.deeds.Stores.{HasPlace, StoreFits}
 use Rattle.tp_runs.proofs.serial_data.Unsettled.{DecidesFirst, IsUnsettled, SameEnds, commit_adds, decision_same, either_decided, fits_same, nothing_decided, same_commit, with_coordinator}
 use Rattle.tp_runs.proofs.serial_data.World.{AreShares, MoveSerial, Serial, ServersSerial, StoreStands, WhatSerial, overlaid_by, run_is_serial, store_by}
-use Rattle.tp_scheme.specs.declared.moves.Point.TheVariants as point
-use Rattle.tp_coord.proofs.Rows.{AllTrue, ByReading, ByVotes, HasVoted, IsJudged, coordinator_by}
 use Rattle.tp_runs.proofs.walks.Steps.{IsCoordinatorUp}
-use Rattle.tp_recover.specs.Log.{decided_in, decision_in, prepared_in, values_in}
-use Rattle.tp_machine.specs.Logs.{decided_at, prepared_at, prepared_by, settled_at, settled_by}
-use Rattle.tp_machine.specs.Machine.{State, acts, coordinator_fact, coordinator_move, log_with}
-use Rattle.tp_machine.specs.Parts.{Part}
-use Rattle.tp_types.specs.Each.{Each}
-use Rattle.tp_machine.specs.Named.{IsTxn}
-use Rattle.tp_coord.specs.Opened.{servers_at}
-use Rattle.tp_coord.specs.Row.{coordinator_row}
-use Rattle.tp_coord.specs.State.{Coordinator}
-use Rattle.tp_coord.specs.declared.coordinator.Phase.TheVariants as phase
-use Rattle.tp_coord.specs.declared.coordinator.Phase.{Phase}
-use Rattle.tp_round.specs.declared.round.Round.{Round}
-use Rattle.tp_server.specs.State.{Server}
 
 -- ---- rows
 
@@ -97,11 +97,6 @@ record_up part c (Some (log.Prepared p)) up h = tt
 record_up part c (Some (log.Told told)) up h = tt
 record_up part c (Some log.Boot) up h = tt
 
--- a round that is judged is one at commit, which all queries have run before
-judged_prepares : (c : Coordinator) (mail : Mail) (round : Round) (staple : Option Staple) (reading : Option Reading) → IsJudged c mail round staple reading → stand_of c.phase ≡ Prepares
-judged_prepares c mail _ _ _ (ByVotes reply round staple server verdicts y replied unread) = ap stand_of y.checking
-judged_prepares c mail _ _ _ (ByReading reply round k) = ap stand_of k.reading
-
 -- every row of a coordinator on receipt of a mail
 pub coordinator_row_own : (sc : Scenario) (c : Coordinator) (mail : Mail) → ForcesOwn c (coordinator_row sc c mail)
 coordinator_row_own sc c mail =
@@ -109,21 +104,24 @@ coordinator_row_own sc c mail =
     (record {
       ignored = tt;
       stapled = λ tell query home k there. tt;
-      sends_query = λ query now next passed moves home. tt;
-      asks_staple = λ query now passed moves. tt;
-      commit_rounds = λ query now passed moves. tt;
-      told = λ tell round k. tt;
-      counted = λ reply round staple server verdicts y. tt;
-      probed = λ reply round staple server verdicts y replied reads. tt;
-      decides = λ instances rounds passed. record { deeds = refl; prepares = prepares instances rounds passed };
+      sends_query = λ at now rounds next passed moves home. tt;
+      asks_staple = λ at now rounds passed moves. tt;
+      probes_proofs = λ at now rounds passed moves. tt;
+      validates = λ at now rounds passed moves. tt;
+      commit_rounds = λ at now rounds passed moves. tt;
+      asks_votes = λ at now rounds passed moves. tt;
+      told = λ tell over round k. tt;
+      counted = λ over round staple server verdicts y. tt;
+      probed = λ over round staple server verdicts y replied reads. tt;
+      decides = λ at now rounds passed moves.
+          let voted = decided_voted sc c at moves in
+          record { deeds = deeds_kept sc c mail at now rounds passed (voted_not_ran at voted); prepares = voted_stands sc c mail at now rounds passed voted };
       aborted = λ why ended. tt;
-      updated = λ round staple reading named j e. tt;
+      updated = λ over round staple reading named j e. tt;
+      voted = λ reply awaited server verdicts y. tt;
       acknowledged = λ ack ended awaited server a. tt;
       inquired = λ inquiry ended awaited server k. tt;
     })
-  where
-    prepares : (instances : List Instance) (rounds : ℕ) → HasVoted sc c mail point.Voted instances rounds → stand_of c.phase ≡ Prepares
-    prepares _ _ (AllTrue round staple reading k) = judged_prepares c mail round staple reading k.is_judged
 
 -- ---- a coordinator acts
 

@@ -1,44 +1,44 @@
 -- Serial data, the server's rows: what an entry has read are the server's values, and a settled commit applies what its entry has done.
-use Rattle.std.specs.Option.{option_flatten, option_map_or}
-use Rattle.std.proofs.Common.{Bool, IfSome, List, None, Option, Some, [], ap, arith, false, if◌then◌else◌, is_some, length, map, refl, slice_get, slice_set, subst, sym, true, unwrap_or, ℕ, ℤ, ⊎_elim, ◌++◌, ◌<◌, ◌∙◌, ◌∷◌, ◌≡◌, ◌⊎◌}
+use Rattle.std.proofs.Common.{Bool, IfSome, List, None, Option, Some, [], ap, arith, false, is_some, length, map, refl, slice_get, slice_set, subst, sym, true, unwrap_or, ℕ, ℤ, ⊎_elim, if◌then◌else◌, ◌++◌, ◌<◌, ◌∙◌, ◌∷◌, ◌≡◌, ◌⊎◌}
 use Rattle.std.proofs.lemmas.Bool.{eqb-true}
 use Rattle.std.proofs.lemmas.List.{length-set}
 use Rattle.std.proofs.lemmas.Option.{same_Some}
+use Rattle.std.specs.Option.{option_flatten, option_map_or}
+use Rattle.tp_types.proofs.EachLemmas.{missing, placed_emptied_others, placed_set, set_here}
+use Rattle.tp_types.specs.Each.{EachPlaced}
 use Rattle.tp_types.specs.Effect.{Effect, sends}
-use Rattle.tp_lock.specs.declared.entry.Grant.{Grant}
+use Rattle.tp_model.specs.Deeds.{deed_of}
 use Rattle.tp_model.specs.Ids.{same_txn}
 use Rattle.tp_model.specs.Queries.{item_of}
 use Rattle.tp_model.specs.SerialRun.{with_deeds}
+use Rattle.tp_model.specs.Words.{AdminId, Answer, Body, Deed, Letter, Mail, Outcome, PrepareRequest, Prepared, PushNotice, Query, QueryRequest, Record, Scenario, ServerId, Settled, TxnId, Verdict, Version}
 use Rattle.tp_model.specs.Words.answer
 use Rattle.tp_model.specs.Words.body
 use Rattle.tp_model.specs.Words.log
 use Rattle.tp_model.specs.Words.outcome
 use Rattle.tp_model.specs.Words.query
-use Rattle.tp_model.specs.Words.{AdminId, Body, Deed, Letter, Mail, Outcome, PrepareRequest, Prepared, PushNotice, Query, QueryRequest, Record, Scenario, ServerId, Settled, Staple, Transaction, TxnId, Verdict, Version}
-use Rattle.tp_server.proofs.Tables.{written_over}
+use Rattle.tp_lock.specs.declared.entry.Grant.{Grant}
 use Rattle.tp_recover.specs.Log.{values_by}
-use Rattle.tp_runs.proofs.basics.Ids.{same_txn_is}
-use Rattle.tp_types.proofs.EachLemmas.{missing, placed_emptied_others, placed_set, set_here}
-use Rattle.tp_runs.proofs.basics.Logs.{Prepares}
-use Rattle.tp_runs.proofs.basics.Stores.{ended_bounds, kept_bounds, kept_values, learnt_is}
-use Rattle.tp_runs.proofs.deeds.Lengths.{all_length}
-use Rattle.tp_runs.proofs.basics.Folds.{set_elsewhere}
-use Rattle.tp_runs.proofs.deeds.Ranges.{AreTested}
-use Rattle.tp_runs.proofs.deeds.Reads.{AreClear, IsReadFrom, ReadsFrom, reads_clear, reads_more}
-use Rattle.tp_runs.proofs.deeds.Stores.{HasPlace}
-use Rattle.tp_runs.proofs.deeds.Tentative.{AreLast, AreUpTo, inside_tested, none_last, own_read, read_last, write_last, write_of}
-use Rattle.tp_server.proofs.Rows.{AreRightWaits, IsAsking, IsFirstHere, IsFirstVote, IsFurther, IsLaterVote, IsResumed, IsVote, ServerCases, denying, resuming, server_by, unwaiting}
-use Rattle.tp_model.specs.Deeds.{deed_of}
-use Rattle.tp_types.specs.Each.{EachPlaced}
+use Rattle.tp_server.proofs.Rows.{AreRightWaits, IsAsking, IsFirstHere, IsFirstVote, IsFurther, IsLaterVote, IsResumed, IsVote, ServerCases, refusing, resuming, server_by, unwaiting}
+use Rattle.tp_server.proofs.Tables.{written_over}
+use Rattle.tp_server.specs.Row.{ack_letter, answer_to, asked_query, closes, completes, ended_store, entry_after, entry_at, followed_by, is_open, kept_by, learns, no_letter, refused_as, reply, reply_of, server_row, settled_as, tentative_write, value_of_run, verdicts_letter, votes, with_answer, with_entry, yes_letter}
+use Rattle.tp_server.specs.State.{Server}
+use Rattle.tp_server.specs.Verdicts.{with_versions, with_wants}
 use Rattle.tp_server.specs.declared.server.Ballot.{Ballot}
 use Rattle.tp_server.specs.declared.server.Entry.{Entry}
-use Rattle.tp_server.specs.Row.{ack_letter, answer_to, asked_query, closes, completes, ended_store, entry_after, entry_at, followed_by, is_open, kept_by, learns, no_letter, refused_as, reply, reply_of, server_row, settled_as, tentative_write, value_of_run, votes_on, with_answer, with_entry, yes_letter}
-use Rattle.tp_server.specs.State.{Server}
-use Rattle.tp_server.specs.Verdicts.{with_wants, verdicts_on, with_versions}
 use Rattle.tp_store.specs.Contents.{Contents}
 use Rattle.tp_store.specs.Rule.{bounds_of, read_in, writes_of}
 use Rattle.tp_store.specs.Writes.{with_write}
 use Rattle.tp_store.specs.declared.writes.TentativeWrite.{TentativeWrite}
+use Rattle.tp_runs.proofs.basics.Folds.{set_elsewhere}
+use Rattle.tp_runs.proofs.basics.Ids.{same_txn_is}
+use Rattle.tp_runs.proofs.basics.Logs.{Prepares}
+use Rattle.tp_runs.proofs.basics.Stores.{ended_bounds, kept_bounds, kept_values, learnt_is}
+use Rattle.tp_runs.proofs.deeds.Lengths.{all_length}
+use Rattle.tp_runs.proofs.deeds.Ranges.{AreTested}
+use Rattle.tp_runs.proofs.deeds.Reads.{AreClear, IsReadFrom, ReadsFrom, reads_clear, reads_more}
+use Rattle.tp_runs.proofs.deeds.Stores.{HasPlace}
+use Rattle.tp_runs.proofs.deeds.Tentative.{AreLast, AreUpTo, inside_tested, none_last, own_read, read_last, write_last, write_of}
 
 -- ---- what is kept
 
@@ -285,11 +285,11 @@ resumes_keep sc M s effect grant q query entry value proof k h =
     let ran = runs_keep sc M effect.state q query (unwaiting entry) value proof h.reads k.exists k.on_item (resumed_at sc s.server effect.state grant q query entry value h.reads k) k.value_is in
     record { reads = ran.reads; forces = h.forces; votes = h.votes; values = ran.values ∙ h.values }
 
--- or its proof is false, and its entry does no more
-pub denies_keep : (sc : Scenario) (M : TxnId → Type 0) (s : Server) (effect : Effect Server) (grant : Grant) (q : QueryRequest) (query : Query) (entry : Entry) (value : ℤ) (verdict : Verdict) → IsResumed sc s.server effect.state grant q query entry value
-    → ServerKeeps sc M s effect → ServerKeeps sc M s (followed_by effect (denying effect.state q entry verdict))
-denies_keep sc M s effect grant q query entry value verdict k h =
-    let now = with_answer q (unwaiting entry) (answer.Denied verdict) in
+-- or it is given an answer that ends its transaction, and its entry does no more
+pub refuses_keep : (sc : Scenario) (M : TxnId → Type 0) (s : Server) (effect : Effect Server) (grant : Grant) (q : QueryRequest) (query : Query) (entry : Entry) (value : ℤ) (said : Answer) → IsResumed sc s.server effect.state grant q query entry value
+    → ServerKeeps sc M s effect → ServerKeeps sc M s (followed_by effect (refusing effect.state q entry said))
+refuses_keep sc M s effect grant q query entry value said k h =
+    let now = with_answer q (unwaiting entry) said in
     let kept = entry_keeps sc M effect.state q (unwaiting entry) now [] h.reads k.exists (resumed_at sc s.server effect.state grant q query entry value h.reads k) refl in
     record { reads = kept.reads; forces = h.forces; votes = h.votes; values = h.values }
 
@@ -313,13 +313,13 @@ vote_tested sc M s p entry h clear found place =
     inside_tested sc s.store p.txn entry.deeds h.bounds_are (subst (λ (x : Option Entry). AreLast (writes_of s.store p.txn) (deeds_in x)) found (h.last p.txn)) first.in_range)
     (λ (further : IsLaterVote p entry). clear.tested entry further.cast found further.ballot_is) place
 
-votes_keep : (sc : Scenario) (M : TxnId → Type 0) (s : Server) (mail : Mail) (p : PrepareRequest) (entry : Entry) (staple : Staple) (txn : Transaction) → ServerReads sc s → PrepareClear sc M s p.txn
-    → IsVote sc s mail p entry staple txn → ServerKeeps sc M s (votes_on sc (with_wants s p.want) p entry staple txn)
-votes_keep sc M s mail p entry staple txn h clear k =
+votes_keep : (sc : Scenario) (M : TxnId → Type 0) (s : Server) (mail : Mail) (p : PrepareRequest) (entry : Entry) (verdicts : List Verdict) → ServerReads sc s → PrepareClear sc M s p.txn
+    → IsVote sc s mail p entry verdicts → ServerKeeps sc M s (votes (with_wants s p.want) p verdicts entry)
+votes_keep sc M s mail p entry verdicts h clear k =
     let now = with_wants s p.want in
     let after : ServerReads sc now = learnt_reads sc s p.want h in
     let here : AreLast (writes_of now.store p.txn) entry.deeds = subst (λ (found : Option Entry). AreLast (writes_of now.store p.txn) (deeds_in found)) k.found (after.last p.txn) in
-    let voted : Entry = record entry { ballot = Some (record { turn = p.turn; verdicts = verdicts_on sc now txn staple p.want entry.deeds }) } in
+    let voted : Entry = record entry { ballot = Some (record { turn = p.turn; verdicts = verdicts }) } in
     record {
       reads = record {
         reads = placed_set (λ (n : ℕ) (found : Entry). ReadsFrom now.store.values found.deeds) s.entries p.txn.0 voted after.reads (after.reads p.txn.0 entry k.found);
@@ -416,11 +416,21 @@ keeps_cases sc M s mail h clear =
             votes = k.votes;
             values = k.values;
           };
+      relearnt = λ effect admin pin k.
+          record {
+            reads = record { reads = k.reads.reads; items_are = k.reads.items_are; bounds_are = k.reads.bounds_are; places = k.reads.places; entry_places = k.reads.entry_places; last = k.reads.last };
+            forces = k.forces;
+            votes = k.votes;
+            values = k.values;
+          };
       ignored = stays_keep sc M s [] h;
       ran = λ q query entry value proof k r.
           let m = subst (RequestClear sc M s) k.said_is clear in
           runs_keep sc M s q query entry value proof h m.exists (m.on_item query k.asked_is) (run_at sc s mail q query entry value h m k) k.value_is;
       denied = λ q query entry value verdict k d.
+          let m = subst (RequestClear sc M s) k.said_is clear in
+          entry_keeps sc M s q entry _ _ h m.exists (run_at sc s mail q query entry value h m k) refl;
+      outdated = λ q query entry value newer k e.
           let m = subst (RequestClear sc M s) k.said_is clear in
           entry_keeps sc M s q entry _ _ h m.exists (run_at sc s mail q query entry value h m k) refl;
       waited = λ q query entry value k.
@@ -431,7 +441,9 @@ keeps_cases sc M s mail h clear =
           entry_keeps sc M s q entry _ _ h m.exists (run_at sc s mail q query entry value h m k) refl;
       restarted = λ q k. stays_keep sc M s (reply s q.txn (body.Done (reply_of q s.epoch answer.Restarted)) ∷ []) h;
       answered = λ q entry given k. stays_keep sc M s (reply s q.txn (body.Done given) ∷ []) h;
-      voted = λ p entry staple txn k. votes_keep sc M s mail p entry staple txn h (subst (RequestClear sc M s) k.said_is clear) k;
+      voted = λ p entry verdicts k. votes_keep sc M s mail p entry verdicts h (subst (RequestClear sc M s) k.said_is clear) k;
+      shown = λ v entry txn k. record { reads = learnt_reads sc s v.want h; forces = tt; votes = tt; values = ap (λ (store : Contents). store.values) (learnt_is s.store v.want) };
+      lost_verdicts = λ v k. stays_keep sc M s (verdicts_letter s v None ∷ []) h;
       voted_again = λ p entry cast k. stays_keep sc M s (yes_letter s p.txn cast ∷ []) h;
       refused = λ p entry number value k. ends_keep sc M s (refused_as p _) (no_letter s p _) h (subst (RequestClear sc M s) k.said_is clear).ends;
       lost = λ p k. ends_keep sc M s (refused_as p _) (no_letter s p _) h (subst (RequestClear sc M s) k.said_is clear).ends;
@@ -440,7 +452,8 @@ keeps_cases sc M s mail h clear =
       acknowledged = λ d settled k. stays_keep sc M s (ack_letter s d.txn ∷ []) h;
       pushed = λ push k. learns_keep sc M s push h;
       resumed = λ effect grant q query entry value proof k r now. resumes_keep sc M s effect grant q query entry value proof k now;
-      resumed_denied = λ effect grant q query entry value verdict k d now. denies_keep sc M s effect grant q query entry value verdict k now;
+      resumed_denied = λ effect grant q query entry value verdict k d now. refuses_keep sc M s effect grant q query entry value (answer.Denied verdict) k now;
+      resumed_outdated = λ effect grant q query entry value newer k e now. refuses_keep sc M s effect grant q query entry value (answer.Newer newer) k now;
     }
 
 -- every row of a server on receipt of a mail

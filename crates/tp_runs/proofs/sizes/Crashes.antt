@@ -18,7 +18,6 @@ use Rattle.tp_runs.proofs.ids.Valid.{IsValid}
 use Rattle.tp_runs.proofs.known.World.{Pairs}
 use Rattle.tp_runs.proofs.sizes.Counts.{IsSmallAtCoordinator, IsSmallAtServer}
 use Rattle.tp_runs.proofs.sizes.World.{AreSmall, Sizes, coordinators_small, received_small, server_sends_small, servers_small}
-use Rattle.tp_runs.proofs.trust.Built.{AreBuilt}
 use Rattle.tp_runs.proofs.trust.World.{Trusts}
 use Rattle.tp_runs.proofs.walks.Crashes.{CrashCases, crash_cases_as, left_shown}
 use Rattle.tp_runs.proofs.walks.Steps.{WaitRightly}
@@ -33,8 +32,8 @@ coordinator_booted_small sc w txn part (Some decision_is) h found =
     let effect = coord_boot.boot_by sc txn (Some decision_is) in
     coordinators_small w.actors txn part (Some effect.state) effect.reaction.append h found tt
 
-pub sizes_crash_cases : (sc : Scenario) (w : State) → AreBuilt sc → HaveHomes sc → IsValid sc → WaitRightly sc w → IsSound sc w → Agrees sc w → Pairs sc w → Trusts sc w → Sizes w → CrashCases sc w (λ taken move. AreSmall move.actors)
-sizes_crash_cases sc w built homes valid rightly sound agrees pairs trusts h =
+pub sizes_crash_cases : (sc : Scenario) (w : State) → HaveHomes sc → IsValid sc → WaitRightly sc w → IsSound sc w → Agrees sc w → Pairs sc w → Trusts sc w → Sizes w → CrashCases sc w (λ taken move. AreSmall move.actors)
+sizes_crash_cases sc w homes valid rightly sound agrees pairs trusts h =
     record {
       server_crashed = λ at part s cut append up left.
           servers_small w.actors at part None append h up.found
@@ -43,11 +42,11 @@ sizes_crash_cases sc w built homes valid rightly sound agrees pairs trusts h =
       coordinator_crashed = λ txn part c cut append exists up begun left.
           coordinators_small w.actors txn part None append h up.found
           (left_shown w (actor.Coordinator txn) (λ (mail : Mail). (coordinator_row sc c mail).reaction.append) append IsSmallAtCoordinator
-          (λ n mail sent. received_small sc w built homes valid sound agrees pairs trusts n mail txn part c sent up) left);
+          (λ n mail sent. received_small sc w homes valid sound agrees pairs trusts n mail txn part c sent up) left);
       coordinator_booted = λ txn part exists found down. coordinator_booted_small sc w txn part (decided_in part.log) h found;
     }
 
 -- records stay small
-pub sizes_crashed : (sc : Scenario) (w : State) → AreBuilt sc → HaveHomes sc → IsValid sc → WaitRightly sc w → IsSound sc w → Agrees sc w → Pairs sc w → Trusts sc w → Sizes w → CrashCases sc w (λ taken move. Sizes (state_after w taken move))
-sizes_crashed sc w built homes valid rightly sound agrees pairs trusts h =
-    crash_cases_as sc w (λ taken move. AreSmall move.actors) (λ taken move. Sizes (state_after w taken move)) (λ taken move small. small) (sizes_crash_cases sc w built homes valid rightly sound agrees pairs trusts h)
+pub sizes_crashed : (sc : Scenario) (w : State) → HaveHomes sc → IsValid sc → WaitRightly sc w → IsSound sc w → Agrees sc w → Pairs sc w → Trusts sc w → Sizes w → CrashCases sc w (λ taken move. Sizes (state_after w taken move))
+sizes_crashed sc w homes valid rightly sound agrees pairs trusts h =
+    crash_cases_as sc w (λ taken move. AreSmall move.actors) (λ taken move. Sizes (state_after w taken move)) (λ taken move small. small) (sizes_crash_cases sc w homes valid rightly sound agrees pairs trusts h)

@@ -1,45 +1,53 @@
 -- Sizes over every list of steps: each record that an actor forces says few things.
-use Rattle.std.proofs.Common.{Bool, IfSome, List, None, Option, Some, ap, arith, false, if◌then◌else◌, length, option_and_then, option_map, refl, slice_get, slice_set, subst, suc, sym, true, zero, ℕ, ⊎_elim, ◌+◌, ◌<◌, ◌∙◌, ◌≡◌, ◌≤◌, is_none, nat_le, not, ◌&&◌, ◌==◌, ◌∷◌, []}
+use Rattle.std.proofs.Common.{Bool, IfSome, List, None, Option, Some, [], ap, arith, false, is_none, length, nat_le, not, option_and_then, option_map, refl, slice_get, slice_set, subst, suc, sym, true, zero, ℕ, ⊎_elim, if◌then◌else◌, ◌&&◌, ◌+◌, ◌<◌, ◌==◌, ◌∙◌, ◌∷◌, ◌≡◌, ◌≤◌}
+use Rattle.std.proofs.lemmas.Bool.{and_parts, cases_lt, eqb-true}
+use Rattle.std.proofs.lemmas.Bool.Decides.{nat_tests}
+use Rattle.std.proofs.lemmas.List.{length-map, length_push}
+use Rattle.std.proofs.lemmas.List.FromFn.{length-range_with_len}
+use Rattle.std.specs.Cmp.Lexicographic.{pointwise}
 use Rattle.std.specs.List.{AllByRecursion, IsDistinct, list_all, list_any, range_with_len}
 use Rattle.std.specs.Option.{option_map_or}
 use Rattle.std.specs.Prelude.{eqb}
-use Rattle.std.proofs.lemmas.Bool.Decides.{nat_tests}
-use Rattle.std.proofs.lemmas.Bool.{and_parts, cases_lt, eqb-true}
-use Rattle.std.proofs.lemmas.List.FromFn.{length-range_with_len}
-use Rattle.std.proofs.lemmas.List.{length-map, length_push}
+use Rattle.tp_types.proofs.EachLemmas.{at_made, at_set, each_get, each_more, missing}
+use Rattle.tp_types.specs.Each.{Each, EachAt}
+use Rattle.tp_types.specs.Effect.{Effect}
+use Rattle.tp_model.specs.Causes.{are_met_on, are_rounds_shown, is_met_shown}
+use Rattle.tp_model.specs.Demand.{agrees_at, are_instances, count_of, each_follows, first_of, is_incremental, is_instance, is_over, is_round_count, many_of}
+use Rattle.tp_model.specs.Levels.{reads_master}
+use Rattle.tp_model.specs.Limits.{has_count, is_from_to}
+use Rattle.tp_model.specs.Valid.{has_valid_creds, is_name_of_server, is_valid_query, is_valid_txn}
+use Rattle.tp_model.specs.Versions.{is_consistent}
+use Rattle.tp_model.specs.Words.{CommitRecord, Decision, Deed, Fact, Instance, Mail, Met, PrepareRequest, Record, Scenario, Scheme, ServerId, Step, Transaction, TxnId, Verdict}
 use Rattle.tp_model.specs.Words.actor
 use Rattle.tp_model.specs.Words.cause
 use Rattle.tp_model.specs.Words.decision
 use Rattle.tp_model.specs.Words.log
 use Rattle.tp_model.specs.Words.scheme
-use Rattle.tp_model.specs.Words.{CommitRecord, Decision, Fact, Instance, Mail, Met, Reading, Record, Scenario, Scheme, ServerId, Staple, Step, Transaction, TxnId, Verdict}
-use Rattle.tp_scheme.specs.declared.moves.Point.TheVariants as point
-use Rattle.tp_coord.proofs.Rows.{AllTrue, ByReading, ByVotes, HasVoted, IsJudged, coordinator_by, submit_by}
+use Rattle.tp_coord.proofs.Rows.{coordinator_by, submit_by}
 use Rattle.tp_coord.specs.Opened as coord_opened
 use Rattle.tp_coord.specs.Row.{coordinator_row, submit_row}
 use Rattle.tp_coord.specs.State.{Coordinator}
-use Rattle.tp_round.specs.declared.round.Round.{Round}
 use Rattle.tp_machine.specs.Machine.{Machine, State, log_with, machine_after, opened_part, opening_state, refusal, with_age}
 use Rattle.tp_machine.specs.Named.{IsStepOf, IsTxn}
 use Rattle.tp_machine.specs.Parts.{Part}
 use Rattle.tp_machine.specs.declared.actors.Actors.{Actors}
-use Rattle.tp_model.specs.Demand.{agrees_at, are_instances, count_of, each_follows, first_of, is_incremental, is_instance, is_over, is_round_count, many_of}
-use Rattle.tp_model.specs.Causes.{are_met_on, are_rounds_shown, is_met_shown}
-use Rattle.tp_model.specs.Levels.{reads_master}
-use Rattle.tp_model.specs.Versions.{is_consistent}
-use Rattle.tp_model.specs.Valid.{has_valid_creds, is_name_of_server, is_valid_query, is_valid_txn}
-use Rattle.tp_model.specs.Limits.{has_count, is_from_to}
-use Rattle.std.specs.Cmp.Lexicographic.{pointwise}
-use Rattle.tp_runs.proofs.trust.Built.{AreBuilt}
+use Rattle.tp_server.proofs.Rows.{AreRightWaits, IsEvaluated, Stapled, Unstapled, server_by}
+use Rattle.tp_server.specs.Opened as server_opened
+use Rattle.tp_server.specs.Row.{entry_at, prepared_record, server_row}
+use Rattle.tp_server.specs.State.{Server}
+use Rattle.tp_server.specs.Verdicts.{verdict_on, with_wants}
+use Rattle.tp_server.specs.declared.server.Entry.{Entry}
 use Rattle.tp_runs.proofs.agreement.Steps.{own_txn}
 use Rattle.tp_runs.proofs.agreement.World.{Agrees}
 use Rattle.tp_runs.proofs.basics.Found.{of_some}
-use Rattle.tp_runs.proofs.basics.Homes.{HaveHomes}
+use Rattle.tp_runs.proofs.basics.Homes.{HaveHomes, decided_voted}
+use Rattle.tp_server.proofs.Tables.{placed_within}
+use Rattle.tp_runs.proofs.basics.Passed.{deeds_kept, passed_undecided, voted_not_ran}
 use Rattle.tp_runs.proofs.basics.Phases.{is_undecided}
 use Rattle.tp_runs.proofs.basics.Turns.{AreFew}
 use Rattle.tp_runs.proofs.basics.Verdicts.{numbers_of}
 use Rattle.tp_runs.proofs.ids.Valid.{IsValid}
-use Rattle.tp_runs.proofs.known.World.{Pairs, pair_of_up}
+use Rattle.tp_runs.proofs.known.World.{HasPlaces, Pairs, pair_of_up}
 use Rattle.tp_runs.proofs.pairs.Actors.{asker_at, asker_by, asker_of, asker_up, pair_at, pair_up, site_of}
 use Rattle.tp_runs.proofs.pairs.Fits.{AskerFits, Fits, IsFront}
 use Rattle.tp_runs.proofs.pairs.Pair.{entry_held, held, number_of, numbers}
@@ -50,15 +58,6 @@ use Rattle.tp_runs.proofs.trust.World.{Trusts}
 use Rattle.tp_runs.proofs.trusted.Steps.{received_row_trusts}
 use Rattle.tp_runs.proofs.walks.Steps.{Cases, IsCoordinatorUp, IsServerUp, KeepsUp, WaitRightly, WasSent, machine_after_by}
 use Rattle.tp_runs.specs.Sound.{IsSound}
-use Rattle.tp_server.proofs.Rows.{AreRightWaits, server_by}
-use Rattle.tp_server.specs.Opened as server_opened
-use Rattle.tp_server.specs.Row.{entry_at, server_row}
-use Rattle.tp_server.specs.State.{Server}
-use Rattle.tp_server.specs.Verdicts.{verdict_on, with_wants}
-use Rattle.tp_server.specs.declared.server.Entry.{Entry}
-use Rattle.tp_types.proofs.EachLemmas.{at_made, at_set, each_get, each_more, missing}
-use Rattle.tp_types.specs.Each.{Each, EachAt}
-use Rattle.tp_types.specs.Effect.{Effect}
 
 -- ---- the invariant
 
@@ -109,24 +108,26 @@ entry_few sc w at part s txn declared entry homes pairs up there found =
 abbrev pub ForcesSmallAtServer : Effect Server → Type 0
 ForcesSmallAtServer effect = IfSome effect.reaction.append IsSmallAtServer
 
-abbrev HasFewDeeds : Scenario → Server → Type 0
-HasFewDeeds sc s = (txn : TxnId) (declared : Transaction) (entry : Entry) → slice_get sc.txns txn.0 ≡ Some declared → entry_at s txn ≡ Some entry → length entry.deeds ≤ 16
+abbrev HasFewDeeds : Server → Type 0
+HasFewDeeds s = (txn : TxnId) (entry : Entry) → entry_at s txn ≡ Some entry → length entry.deeds ≤ 16
 
-server_row_small : (sc : Scenario) (s : Server) (mail : Mail) → AreRightWaits sc s → HasFewDeeds sc s → ForcesSmallAtServer (server_row sc s mail)
+server_row_small : (sc : Scenario) (s : Server) (mail : Mail) → AreRightWaits sc s → HasFewDeeds s → ForcesSmallAtServer (server_row sc s mail)
 server_row_small sc s mail rightly few =
     server_by sc s mail ForcesSmallAtServer rightly
     (record {
       relocked = λ effect locks h. h;
+      relearnt = λ effect admin pin h. h;
       ignored = tt;
       ran = λ q query entry value proof k r. tt;
       denied = λ q query entry value verdict k d. tt;
+      outdated = λ q query entry value newer k e. tt;
       waited = λ q query entry value k. tt;
       died = λ q query entry value other k e. tt;
       restarted = λ q k. tt;
       answered = λ q entry given k. tt;
-      voted = λ p entry staple txn k.
-          let deeds : length entry.deeds ≤ 16 = few p.txn txn entry k.declared k.found in
-          record { deeds = deeds; verdicts = omega (arith, deeds, length-map entry.deeds (verdict_on sc (with_wants s p.want) txn staple p.want)) };
+      voted = λ p entry verdicts k. vote_small p entry verdicts k.found k.evaluated;
+      shown = λ v entry txn k. tt;
+      lost_verdicts = λ v k. tt;
       voted_again = λ p entry cast k. tt;
       refused = λ p entry number value k. tt;
       lost = λ p k. tt;
@@ -136,12 +137,33 @@ server_row_small sc s mail rightly few =
       pushed = λ push k. tt;
       resumed = λ effect grant q query entry value proof k r h. h;
       resumed_denied = λ effect grant q query entry value verdict k d h. h;
+      resumed_outdated = λ effect grant q query entry value newer k e h. h;
     })
+  where
+    -- a vote has a verdict on each deed, or none
+    vote_small : (p : PrepareRequest) (entry : Entry) (verdicts : List Verdict) → entry_at s p.txn ≡ Some entry → IsEvaluated sc s p entry verdicts → IsSmallAtServer (log.Prepared (prepared_record (with_wants s p.want) p entry verdicts))
+    vote_small p entry _ found (Stapled staple txn given declared) =
+        let deeds : length entry.deeds ≤ 16 = few p.txn entry found in
+        record { deeds = deeds; verdicts = omega (arith, deeds, length-map entry.deeds (verdict_on sc (with_wants s p.want) txn staple p.want)) }
+    vote_small p entry _ found (Unstapled given) = record { deeds = few p.txn entry found; verdicts = omega arith }
+
+-- a transaction that exists is declared
+txn_declared : (sc : Scenario) (txn : TxnId) → IsTxn sc txn → (declared : Transaction) × (slice_get sc.txns txn.0 ≡ Some declared)
+txn_declared sc txn exists = by_found (slice_get sc.txns txn.0) refl
+  where
+    by_found : (found : Option Transaction) → slice_get sc.txns txn.0 ≡ found → (declared : Transaction) × (slice_get sc.txns txn.0 ≡ Some declared)
+    by_found None e = absurd (missing sc.txns txn.0 exists e)
+    by_found (Some declared) e = (declared, e)
 
 -- so it is of the row on each mail
 pub server_sends_small : (sc : Scenario) (w : State) → HaveHomes sc → WaitRightly sc w → Pairs sc w → (mail : Mail) (at : ServerId) (part : Part Server) (s : Server) → IsServerUp w at part s → ForcesSmallAtServer (server_row sc s mail)
 server_sends_small sc w homes rightly pairs mail at part s up =
-    server_row_small sc s mail (rightly at part s up) (λ txn declared entry there found. entry_few sc w at part s txn declared entry homes pairs up there found)
+    server_row_small sc s mail (rightly at part s up)
+    (λ txn entry found.
+    let places : HasPlaces sc s = subst (λ (u : Option Server). IfSome u (HasPlaces sc)) up.up (pairs.places at.0 part up.found) in
+    let within = placed_within s.entries txn.0 entry found in
+    let there = txn_declared sc txn (omega (arith, within, places)) in
+    entry_few sc w at part s txn there.0 entry homes pairs up there.1 found)
 
 -- ---- a coordinator acts
 
@@ -168,32 +190,30 @@ Decides txn _ = Unit {0}
 abbrev ForcesFewDeeds : TxnId → Effect Coordinator → Type 0
 ForcesFewDeeds txn effect = IfSome effect.reaction.append (Decides txn)
 
--- a round is judged before anything is decided
-judged_undecided : (c : Coordinator) (mail : Mail) (round : Round) (staple : Option Staple) (reading : Option Reading) → IsJudged c mail round staple reading → is_undecided c.phase ≡ true
-judged_undecided c mail _ _ _ (ByVotes reply round staple server verdicts y replied unread) = ap is_undecided y.checking
-judged_undecided c mail _ _ _ (ByReading reply round k) = ap is_undecided k.reading
-
 coordinator_row_few : (sc : Scenario) (c : Coordinator) (mail : Mail) → (is_undecided c.phase ≡ true → length c.deeds ≤ 16) → ForcesFewDeeds c.txn (coordinator_row sc c mail)
 coordinator_row_few sc c mail few =
     coordinator_by sc c mail (ForcesFewDeeds c.txn)
     (record {
       ignored = tt;
       stapled = λ tell query home k there. tt;
-      sends_query = λ query now next passed moves home. tt;
-      asks_staple = λ query now passed moves. tt;
-      commit_rounds = λ query now passed moves. tt;
-      told = λ tell round k. tt;
-      counted = λ reply round staple server verdicts y. tt;
-      probed = λ reply round staple server verdicts y replied reads. tt;
-      decides = λ instances rounds passed. (refl, few (undecided instances rounds passed));
+      sends_query = λ at now rounds next passed moves home. tt;
+      asks_staple = λ at now rounds passed moves. tt;
+      probes_proofs = λ at now rounds passed moves. tt;
+      validates = λ at now rounds passed moves. tt;
+      commit_rounds = λ at now rounds passed moves. tt;
+      asks_votes = λ at now rounds passed moves. tt;
+      told = λ tell over round k. tt;
+      counted = λ over round staple server verdicts y. tt;
+      probed = λ over round staple server verdicts y replied reads. tt;
+      decides = λ at now rounds passed moves.
+          let kept = deeds_kept sc c mail at now rounds passed (voted_not_ran at (decided_voted sc c at moves)) in
+          (refl, subst (λ (deeds : List Deed). length deeds ≤ 16) (sym kept) (few (passed_undecided sc c mail at now rounds passed)));
       aborted = λ why ended. (refl, tt);
-      updated = λ round staple reading named j e. tt;
+      updated = λ over round staple reading named j e. tt;
+      voted = λ reply awaited server verdicts y. tt;
       acknowledged = λ ack ended awaited server k. tt;
       inquired = λ inquiry ended awaited server k. tt;
     })
-  where
-    undecided : (instances : List Instance) (rounds : ℕ) → HasVoted sc c mail point.Voted instances rounds → is_undecided c.phase ≡ true
-    undecided _ _ (AllTrue round staple reading k) = judged_undecided c mail round staple reading k.is_judged
 
 -- numbers in a row are different
 above_apart : (number low many : ℕ) → number < low → AllByRecursion (λ (other : ℕ). eqb number other ≡ false) (range_with_len low many)
@@ -311,20 +331,12 @@ few_in_homes sc homes txn = by_found (slice_get sc.txns txn.0) refl
     by_found None e = omega arith
     by_found (Some declared) e = homes.few txn.0 declared e
 
--- a transaction that exists is declared
-txn_declared : (sc : Scenario) (txn : TxnId) → IsTxn sc txn → (declared : Transaction) × (slice_get sc.txns txn.0 ≡ Some declared)
-txn_declared sc txn exists = by_found (slice_get sc.txns txn.0) refl
-  where
-    by_found : (found : Option Transaction) → slice_get sc.txns txn.0 ≡ found → (declared : Transaction) × (slice_get sc.txns txn.0 ≡ Some declared)
-    by_found None e = absurd (missing sc.txns txn.0 exists e)
-    by_found (Some declared) e = (declared, e)
-
-pub received_small : (sc : Scenario) (w : State) → AreBuilt sc → HaveHomes sc → IsValid sc → IsSound sc w → Agrees sc w → Pairs sc w → Trusts sc w → (n : ℕ) (mail : Mail) (txn : TxnId) (part : Part Coordinator) (c : Coordinator)
+pub received_small : (sc : Scenario) (w : State) → HaveHomes sc → IsValid sc → IsSound sc w → Agrees sc w → Pairs sc w → Trusts sc w → (n : ℕ) (mail : Mail) (txn : TxnId) (part : Part Coordinator) (c : Coordinator)
     → WasSent w n mail (actor.Coordinator txn) → IsCoordinatorUp w txn part c → IfSome (coordinator_row sc c mail).reaction.append IsSmallAtCoordinator
-received_small sc w built homes valid sound agrees pairs trusts n mail txn part c sent up =
+received_small sc w homes valid sound agrees pairs trusts n mail txn part c sent up =
     let same : c.txn ≡ txn = own_txn sc w txn part c sound up.found up.up in
     let there = txn_declared sc txn (sound.actors_are.coordinators txn.0 part up.found).exists in
-    let decides = received_row_trusts sc w (few_in_homes sc homes) built homes valid sound agrees pairs trusts n mail txn part c sent up in
+    let decides = received_row_trusts sc w (few_in_homes sc homes) homes valid sound agrees pairs trusts n mail txn part c sent up in
     append_small sc w.facts (length w.steps) c.txn there.0 (coordinator_row sc c mail).reaction.append homes valid (subst (λ (t : TxnId). slice_get sc.txns t.0 ≡ Some there.0) (sym same) there.1) decides.decides
     (coordinator_row_few sc c mail (coordinator_few sc w txn part c there.0 homes pairs up there.1))
 
@@ -359,8 +371,8 @@ unmoved_small actors others servers coordinators h =
       coordinators = subst (EachAt (λ (n : ℕ) (part : Part Coordinator). Each IsSmallAtCoordinator part.log)) (sym coordinators) h.coordinators;
     }
 
-sizes_cases : (sc : Scenario) (w : State) → AreBuilt sc → HaveHomes sc → IsValid sc → WaitRightly sc w → IsSound sc w → Agrees sc w → Pairs sc w → Trusts sc w → Sizes w → Cases sc w (λ taken move. AreSmall move.actors)
-sizes_cases sc w built homes valid rightly sound agrees pairs trusts h =
+sizes_cases : (sc : Scenario) (w : State) → HaveHomes sc → IsValid sc → WaitRightly sc w → IsSound sc w → Agrees sc w → Pairs sc w → Trusts sc w → Sizes w → Cases sc w (λ taken move. AreSmall move.actors)
+sizes_cases sc w homes valid rightly sound agrees pairs trusts h =
     record {
       idle = λ taken happened says. h;
       server_received = λ n mail at part s sent up.
@@ -368,7 +380,7 @@ sizes_cases sc w built homes valid rightly sound agrees pairs trusts h =
           (server_sends_small sc w homes rightly pairs mail at part s up);
       coordinator_received = λ n mail txn part c sent up.
           coordinators_small w.actors txn part (Some (coordinator_row sc c mail).state) (coordinator_row sc c mail).reaction.append h up.found
-          (received_small sc w built homes valid sound agrees pairs trusts n mail txn part c sent up);
+          (received_small sc w homes valid sound agrees pairs trusts n mail txn part c sent up);
       authority_told = λ n mail sent. h;
       master_told = λ n mail sent. h;
       published = λ admin exists more. unmoved_small w.actors _ refl refl h;
@@ -381,11 +393,11 @@ sizes_cases sc w built homes valid rightly sound agrees pairs trusts h =
     }
 
 -- a step that is not refused forces small records
-pub sizes_next : (sc : Scenario) (m : Machine) (taken : Step) → AreBuilt sc → HaveHomes sc → IsValid sc → IsStepOf sc taken → KeepsUp taken → refusal m.state taken ≡ None → WaitRightly sc m.state → IsSound sc m.state → Agrees sc m.state → Pairs sc m.state → Trusts sc m.state
+pub sizes_next : (sc : Scenario) (m : Machine) (taken : Step) → HaveHomes sc → IsValid sc → IsStepOf sc taken → KeepsUp taken → refusal m.state taken ≡ None → WaitRightly sc m.state → IsSound sc m.state → Agrees sc m.state → Pairs sc m.state → Trusts sc m.state
     → Sizes m.state → Sizes (machine_after sc m taken).state
-sizes_next sc m taken built homes valid exists stays allowed rightly sound agrees pairs trusts h =
+sizes_next sc m taken homes valid exists stays allowed rightly sound agrees pairs trusts h =
     machine_after_by sc m (λ taken move. AreSmall move.actors) Sizes
-    (sizes_cases sc m.state built homes valid rightly sound agrees pairs trusts h) agrees.coordinator_count
+    (sizes_cases sc m.state homes valid rightly sound agrees pairs trusts h) agrees.coordinator_count
     (λ taken move small. small) taken exists stays allowed
 
 -- before the first step all logs are empty

@@ -74,17 +74,21 @@ server_facts_fit sc facts place at None = tt
 server_facts_fit sc facts place at (Some (log.Settled s)) = (tt, tt)
 server_facts_fit sc facts place at (Some _) = tt
 
+-- the coordinator of the transaction is up
+abbrev pub IsUpAs : List (Part Coordinator) → TxnId → Coordinator → Type 0
+IsUpAs coordinators txn c = up_at coordinators txn.0 ≡ Some c
+
 -- a reply is timely where its request is, at any place
-reply_up : (sc : Scenario) (sent place : ℕ) (request reply : Body) (stamped : Stamp) (a : Answers sc request reply stamped) (up : Option Coordinator) → IfSome up (TurnFits sc sent a.asked.turn request)
-    → IfSome up (TurnFits sc place stamped.turn reply)
-reply_up sc sent place request reply stamped a None h = tt
-reply_up sc sent place request reply stamped a (Some c) h = a.timely c sent place h
+reply_up : (sc : Scenario) (coordinators : List (Part Coordinator)) (sent place : ℕ) (request reply : Body) (stamped : Stamp) (a : Answers sc (IsUpAs coordinators) request reply stamped) (up : Option Coordinator)
+    → up_at coordinators stamped.txn.0 ≡ up → IfSome up (TurnFits sc sent a.asked.turn request) → IfSome up (TurnFits sc place stamped.turn reply)
+reply_up sc coordinators sent place request reply stamped a None there h = tt
+reply_up sc coordinators sent place request reply stamped a (Some c) there h = a.timely c sent place there h
 
 -- so what is timely is closed under answers
-pub timely_closed : (sc : Scenario) (coordinators : List (Part Coordinator)) → IsClosed sc (Timely sc coordinators)
+pub timely_closed : (sc : Scenario) (coordinators : List (Part Coordinator)) → IsClosed sc (IsUpAs coordinators) (Timely sc coordinators)
 timely_closed sc coordinators request reply stamped a t place =
     let asked : StampFits sc coordinators 0 request a.asked = subst (λ (found : Option Stamp). IfSome found (StampFits sc coordinators 0 request)) a.asked_is (t 0) in
-    let answered : StampFits sc coordinators place reply stamped = reply_up sc 0 place request reply stamped a (up_at coordinators stamped.txn.0)
+    let answered : StampFits sc coordinators place reply stamped = reply_up sc coordinators 0 place request reply stamped a (up_at coordinators stamped.txn.0) refl
     (subst (λ (txn : TxnId). IfSome (up_at coordinators txn.0) (TurnFits sc 0 a.asked.turn request)) a.same_txn asked) in
     subst (λ (found : Option Stamp). IfSome found (StampFits sc coordinators place reply)) (sym a.reply_is) answered
 

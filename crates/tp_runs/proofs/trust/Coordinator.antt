@@ -5,6 +5,7 @@ use Rattle.tp_types.proofs.EachLemmas.{missing}
 use Rattle.tp_types.specs.Each.{Each}
 use Rattle.tp_types.specs.Effect.{Effect, ignores}
 use Rattle.tp_model.specs.Causes.{are_rounds_shown, is_bound_to_newest, is_newer_shown}
+use Rattle.tp_model.specs.Levels.{reads_master}
 use Rattle.tp_model.specs.Versions.{newest}
 use Rattle.tp_model.specs.Words.{Body, Cause, CommitRecord, Decision, Denied, Fact, Instance, Letter, Mail, Outcome, Record, Scenario, ServerId, Transaction, TxnId, Verdict}
 use Rattle.tp_model.specs.Words.actor
@@ -20,7 +21,7 @@ use Rattle.tp_scheme.specs.Gathered.{closed}
 use Rattle.tp_runs.proofs.basics.Phases.{ceiling_in, is_undecided}
 use Rattle.tp_runs.proofs.basics.Turns.{IsAbove, IsTimely, Stamp, TurnFits, ceiling, query_count, stamp_of}
 use Rattle.tp_runs.proofs.trust.Fit.{BodyFits, Right}
-use Rattle.tp_runs.proofs.trust.Instances.{IsSoFar, IsTrustedCommit, closed_as, closed_before, gathered_as, gathered_before, so_far_on}
+use Rattle.tp_runs.proofs.trust.Instances.{IsSoFarIn, IsTrustedCommit, closed_as, closed_before, gathered_as, gathered_before, so_far_on}
 use Rattle.tp_runs.proofs.trust.Phases.{IsMadeAfter, PhaseFits, Suits}
 use Rattle.tp_runs.specs.Sound.{IsSoundBody}
 
@@ -28,14 +29,14 @@ use Rattle.tp_runs.specs.Sound.{IsSoundBody}
 
 -- what a transaction of the scenario has closed and gathered before the phase
 abbrev pub AreSoFar : Scenario → List Fact → ℕ → TxnId → Phase → List Instance → List Verdict → Type 0
-AreSoFar sc facts place txn awaited instances gathered = (declared : Transaction) → slice_get sc.txns txn.0 ≡ Some declared → IsSoFar sc facts place txn declared awaited instances gathered
+AreSoFar sc facts place txn awaited instances gathered = (declared : Transaction) → slice_get sc.txns txn.0 ≡ Some declared → IsSoFarIn sc facts place txn declared awaited instances gathered
 
 -- a coordinator awaits the answer to a request that fits, in a phase of its transaction's scheme and a turn of that phase; before the
 -- decision what it has closed is what the scheme demands so far, and what is closed or gathered is of the past, and was made before the
 -- staple and the replies that the phase has
 pub record CoordinatorFits (sc : Scenario) (facts : List Fact) (place : ℕ) (c : Coordinator) : Type 0 where
   pub awaits : PhaseFits sc facts place c.txn c.phase
-  pub suits : (declared : Transaction) → slice_get sc.txns c.txn.0 ≡ Some declared → Suits declared.scheme c.phase
+  pub suits : (declared : Transaction) → slice_get sc.txns c.txn.0 ≡ Some declared → Suits declared.scheme (reads_master sc declared) c.phase
   pub so_far : is_undecided c.phase ≡ true → AreSoFar sc facts place c.txn c.phase c.instances c.gathered
   pub above : is_undecided c.phase ≡ true → IsAbove place c.instances c.gathered
   pub made_after : IsMadeAfter c.instances c.gathered c.phase
@@ -90,7 +91,7 @@ pub record CoordinatorTrusts (sc : Scenario) (facts : List Fact) (place : ℕ) (
 abbrev pub RowTrusts : Scenario → List Fact → ℕ → Coordinator → Effect Coordinator → Type 0
 RowTrusts sc facts place c effect = CoordinatorTrusts sc facts place c.txn (Some c) (Some effect.state) effect.reaction.append effect.reaction.letters
 
-ignores_trusts_in_coordinator : (sc : Scenario) (facts : List Fact) (place : ℕ) (c : Coordinator) → CoordinatorFits sc facts place c → RowTrusts sc facts place c (ignores c)
+pub ignores_trusts_in_coordinator : (sc : Scenario) (facts : List Fact) (place : ℕ) (c : Coordinator) → CoordinatorFits sc facts place c → RowTrusts sc facts place c (ignores c)
 ignores_trusts_in_coordinator sc facts place c h = record { fits = h; decides = tt; says = λ sent. tt; timely = λ sent. tt; old = λ sent turn said t. t }
 
 -- what is closed and gathered stays as it is in a phase before which as much is
@@ -99,7 +100,7 @@ pub moved_on : (sc : Scenario) (facts : List Fact) (place : ℕ) (txn : TxnId) (
     → AreSoFar sc facts place txn awaited instances gathered → AreSoFar sc facts place txn next instances gathered
 moved_on sc facts place txn awaited next instances gathered closed gathers h declared found =
     let queries = length declared.queries in
-    so_far_on sc facts place txn declared awaited next instances gathered (closed_as declared.scheme queries awaited next (closed queries)) (gathered_as declared.scheme queries awaited next (gathers queries)) (h declared found)
+    so_far_on sc facts place txn declared _ _ _ _ instances gathered (closed_as declared.scheme queries awaited next (closed queries)) (gathered_as declared.scheme queries awaited next (gathers queries)) (h declared found)
 
 pub phase_fits : (sc : Scenario) (facts : List Fact) (place : ℕ) (c : Coordinator) (awaited : Phase) → CoordinatorFits sc facts place c → c.phase ≡ awaited → PhaseFits sc facts place c.txn awaited
 phase_fits sc facts place c awaited h e = subst (PhaseFits sc facts place c.txn) e h.awaits

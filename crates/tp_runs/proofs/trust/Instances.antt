@@ -1,5 +1,5 @@
 -- Trust: the instances that a transaction has closed are what its scheme demands so far, and stay so; what it has gathered is right.
-use Rattle.std.proofs.Common.{Bool, IfSome, List, None, Option, Some, [], ap, arith, false, is_none, length, nat_le, nat_lt, refl, subst, sym, take, true, ℕ, if◌then◌else◌, ◌&&◌, ◌++◌, ◌+◌, ◌-◌, ◌<◌, ◌==◌, ◌∙◌, ◌∷◌, ◌≡◌, ◌≤◌}
+use Rattle.std.proofs.Common.{Bool, IfSome, List, None, Option, Some, [], ap, arith, false, is_none, length, nat_le, nat_lt, refl, subst, suc, sym, take, true, zero, ℕ, if◌then◌else◌, ◌&&◌, ◌++◌, ◌+◌, ◌-◌, ◌<◌, ◌==◌, ◌∙◌, ◌∷◌, ◌≡◌, ◌≤◌}
 use Rattle.std.proofs.lemmas.Bool.{and_from, and_parts, eq-eqb, le-leb, lt-ltb}
 use Rattle.std.proofs.lemmas.Bool.Decides.{nat_tests}
 use Rattle.std.proofs.lemmas.List.{length_push}
@@ -22,6 +22,7 @@ use Rattle.tp_runs.proofs.basics.Facts.{Grows, all_from_each}
 use Rattle.tp_runs.proofs.basics.Turns.{IsAbove, IsEarlierInstance}
 use Rattle.tp_runs.proofs.basics.Verdicts.{numbers_of}
 use Rattle.tp_runs.proofs.trust.Fit.{Later, Right, has_rule, maybe_stays, rights_stay, submitted_stays}
+use Rattle.tp_runs.proofs.trust.Gathering.{ArePinned, AreRising}
 
 -- ---- an instance
 
@@ -95,7 +96,7 @@ FollowsLast chosen [] next = Unit {0}
 FollowsLast chosen (one ∷ []) next = follows chosen one next ≡ true
 FollowsLast chosen (one ∷ other ∷ instances) next = FollowsLast chosen (other ∷ instances) next
 
-demanded_more : (sc : Scenario) (facts : List Fact) (declared : Transaction) (number : ℕ) (instances : List Instance) (next : Instance) → are_instances sc facts declared number instances ≡ true
+pub demanded_more : (sc : Scenario) (facts : List Fact) (declared : Transaction) (number : ℕ) (instances : List Instance) (next : Instance) → are_instances sc facts declared number instances ≡ true
     → is_instance sc facts declared (number + length instances) next ≡ true → are_instances sc facts declared number (instances ++ next ∷ []) ≡ true
 demanded_more sc facts declared number [] next e last =
     let here : number + 0 ≡ number = omega arith in
@@ -105,7 +106,7 @@ demanded_more sc facts declared number (instance ∷ instances) next e last =
     let further : number + length (instance ∷ instances) ≡ number + 1 + length instances = omega arith in
     and_from _ _ parts.0 (demanded_more sc facts declared (number + 1) instances next parts.1 (subst (λ (n : ℕ). is_instance sc facts declared n next ≡ true) further last))
 
-follows_more : (chosen : Scheme) (instances : List Instance) (next : Instance) → each_follows chosen instances ≡ true → FollowsLast chosen instances next → each_follows chosen (instances ++ next ∷ []) ≡ true
+pub follows_more : (chosen : Scheme) (instances : List Instance) (next : Instance) → each_follows chosen instances ≡ true → FollowsLast chosen instances next → each_follows chosen (instances ++ next ∷ []) ≡ true
 follows_more chosen [] next e last = refl
 follows_more chosen (one ∷ []) next e last = and_from _ _ last refl
 follows_more chosen (one ∷ other ∷ instances) next e last =
@@ -153,29 +154,28 @@ abbrev pub gathered_in : Scheme → ℕ → Phase → ℕ
 gathered_in scheme.Incremental queries awaited = gathered_before queries awaited
 gathered_in _ queries awaited = 0
 
--- each proof was made after the one before it
-abbrev pub AreRising : List Verdict → Type 0
-AreRising [] = Unit {0}
-AreRising (proof ∷ []) = Unit {0}
-AreRising (proof ∷ next ∷ proofs) = (proof.place < next.place) × AreRising (next ∷ proofs)
-
--- what a transaction has closed before its phase is what its scheme demands so far, each instance trusted; under incremental they are
--- the fronts of what is gathered, which is right, of one version of each administrator, and of each query up to the phase
-pub record IsSoFar (sc : Scenario) (facts : List Fact) (place : ℕ) (txn : TxnId) (declared : Transaction) (awaited : Phase) (instances : List Instance) (gathered : List Verdict) : Type 0 where
-  pub count : length instances ≡ closed_in declared.scheme (length declared.queries) awaited
+-- what a transaction has closed, so many instances, is what its scheme demands so far, each instance trusted; under incremental they are
+-- the fronts of what is gathered, which is right, of the version that each administrator's first pins, and of each of its first so many queries
+pub record IsSoFar (sc : Scenario) (facts : List Fact) (place : ℕ) (txn : TxnId) (declared : Transaction) (closed gathers : ℕ) (instances : List Instance) (gathered : List Verdict) : Type 0 where
+  pub count : length instances ≡ closed
   pub demanded : are_instances sc facts declared 1 instances ≡ true
   pub follow : each_follows declared.scheme instances ≡ true
   pub trusted : Each (IsTrustedInstance sc facts place txn) instances
   pub fronts : declared.scheme ≡ scheme.Incremental → EachAt (λ (n : ℕ) (instance : Instance). instance.proofs ≡ take (n + 1) gathered) instances
-  pub numbers : numbers_of gathered ≡ range_with_len 1 (gathered_in declared.scheme (length declared.queries) awaited)
+  pub numbers : numbers_of gathered ≡ range_with_len 1 gathers
   pub right : Each (Right sc facts place txn) gathered
   pub have_rules : list_all has_rule gathered ≡ true
-  pub one_version : is_one_version gathered ≡ true
+  pub pins : ArePinned gathered
   pub rising : AreRising gathered
 
-pub so_far_stays : (sc : Scenario) (old new : List Fact) (low high : ℕ) (txn : TxnId) (declared : Transaction) (awaited : Phase) (instances : List Instance) (gathered : List Verdict) → Later old new low high
-    → IsSoFar sc old low txn declared awaited instances gathered → IsSoFar sc new high txn declared awaited instances gathered
-so_far_stays sc old new low high txn declared awaited instances gathered l h =
+-- as many as the phase of a transaction of its scheme says
+abbrev pub IsSoFarIn : Scenario → List Fact → ℕ → TxnId → Transaction → Phase → List Instance → List Verdict → Type 0
+IsSoFarIn sc facts place txn declared awaited instances gathered =
+    IsSoFar sc facts place txn declared (closed_in declared.scheme (length declared.queries) awaited) (gathered_in declared.scheme (length declared.queries) awaited) instances gathered
+
+pub so_far_stays : (sc : Scenario) (old new : List Fact) (low high : ℕ) (txn : TxnId) (declared : Transaction) (closed gathers : ℕ) (instances : List Instance) (gathered : List Verdict) → Later old new low high
+    → IsSoFar sc old low txn declared closed gathers instances gathered → IsSoFar sc new high txn declared closed gathers instances gathered
+so_far_stays sc old new low high txn declared closed gathers instances gathered l h =
     record {
       count = h.count;
       demanded = demanded_stay sc declared old new low 1 txn instances l.grows h.trusted h.demanded;
@@ -185,7 +185,7 @@ so_far_stays sc old new low high txn declared awaited instances gathered l h =
       numbers = h.numbers;
       right = rights_stay sc old new low high txn gathered l h.right;
       have_rules = h.have_rules;
-      one_version = h.one_version;
+      pins = h.pins;
       rising = h.rising;
     }
 
@@ -205,7 +205,7 @@ none_at : (gathered : List Verdict) → gathered ≡ [] → EachAt (λ (n : ℕ)
 none_at gathered e n instance there = absurd (cc)
 
 -- before the submission nothing is closed or gathered
-pub so_far_idle : (sc : Scenario) (facts : List Fact) (place : ℕ) (txn : TxnId) (declared : Transaction) → IsSoFar sc facts place txn declared phase.Idle [] []
+pub so_far_idle : (sc : Scenario) (facts : List Fact) (place : ℕ) (txn : TxnId) (declared : Transaction) → IsSoFarIn sc facts place txn declared phase.Idle [] []
 so_far_idle sc facts place txn declared =
     record {
       count = sym (none_closed_idle declared.scheme (length declared.queries));
@@ -216,7 +216,7 @@ so_far_idle sc facts place txn declared =
       numbers = ap (range_with_len 1) (sym (none_gathered_idle declared.scheme (length declared.queries)));
       right = tt;
       have_rules = refl;
-      one_version = refl;
+      pins = tt;
       rising = tt;
     }
 
@@ -241,23 +241,11 @@ none_gathered scheme.Punctual queries awaited e = refl
 none_gathered scheme.Continuous queries awaited e = refl
 none_gathered scheme.Incremental queries awaited e = absurd (cc)
 
--- what is closed and gathered stays as it is in a phase before which as much is
-pub so_far_on : (sc : Scenario) (facts : List Fact) (place : ℕ) (txn : TxnId) (declared : Transaction) (awaited next : Phase) (instances : List Instance) (gathered : List Verdict)
-    → closed_in declared.scheme (length declared.queries) awaited ≡ closed_in declared.scheme (length declared.queries) next → gathered_in declared.scheme (length declared.queries) awaited ≡ gathered_in declared.scheme (length declared.queries) next
-    → IsSoFar sc facts place txn declared awaited instances gathered → IsSoFar sc facts place txn declared next instances gathered
-so_far_on sc facts place txn declared awaited next instances gathered closed gathers h =
-    record {
-      count = h.count ∙ closed;
-      demanded = h.demanded;
-      follow = h.follow;
-      trusted = h.trusted;
-      fronts = h.fronts;
-      numbers = h.numbers ∙ ap (range_with_len 1) gathers;
-      right = h.right;
-      have_rules = h.have_rules;
-      one_version = h.one_version;
-      rising = h.rising;
-    }
+-- what is closed and gathered stays as it is where as much is
+pub so_far_on : (sc : Scenario) (facts : List Fact) (place : ℕ) (txn : TxnId) (declared : Transaction) (closed gathers other more : ℕ) (instances : List Instance) (gathered : List Verdict) → closed ≡ other → gathers ≡ more
+    → IsSoFar sc facts place txn declared closed gathers instances gathered → IsSoFar sc facts place txn declared other more instances gathered
+so_far_on sc facts place txn declared closed gathers other more instances gathered as_many as_gathered h =
+    subst (λ (n : ℕ). IsSoFar sc facts place txn declared n more instances gathered) as_many (subst (λ (n : ℕ). IsSoFar sc facts place txn declared closed n instances gathered) as_gathered h)
 
 -- ---- what comes after all that is closed and gathered
 
@@ -273,7 +261,7 @@ later_proof : (one : Instance) (proof : Verdict) → IsEarlierInstance proof.pla
 later_proof one proof h =
     and_from _ _ (all_from_each (λ (other : Verdict). other.place < proof.place) (is_earlier_proof proof) (λ other less. lt-ltb other.place proof.place less) one.proofs h.proofs) (after_reading one.reading proof.place h.reading)
 
-later_proofs : (one : Instance) (proofs : List Verdict) → Each (λ (proof : Verdict). IsEarlierInstance proof.place one) proofs → list_all (is_later one) proofs ≡ true
+pub later_proofs : (one : Instance) (proofs : List Verdict) → Each (λ (proof : Verdict). IsEarlierInstance proof.place one) proofs → list_all (is_later one) proofs ≡ true
 later_proofs one proofs h = all_from_each (λ (proof : Verdict). IsEarlierInstance proof.place one) (is_later one) (λ proof earlier. later_proof one proof earlier) proofs h
 
 follows_later : (chosen : Scheme) (one next : Instance) → is_incremental chosen ≡ false → list_all (is_later one) next.proofs ≡ true → follows chosen one next ≡ true
@@ -315,30 +303,71 @@ own_demanded sc facts declared verdict number punctual most on =
     le-ltb : (low high : ℕ) → low ≤ high → nat_lt high low ≡ false
     le-ltb low high le = grind (arith, nat_tests)
 
--- with it what a punctual transaction has closed is what it demands up to its query
-pub own_closed : (sc : Scenario) (facts : List Fact) (place : ℕ) (txn : TxnId) (declared : Transaction) (number : ℕ) (staple : Option Staple) (instances : List Instance) (gathered : List Verdict) (verdict : Verdict)
-    → declared.scheme ≡ scheme.Punctual → 1 ≤ number → number ≤ length declared.queries → verdict.query ≡ number → Right sc facts place txn verdict → has_rule verdict ≡ true → IsAbove verdict.place instances gathered
-    → IsSoFar sc facts place txn declared (phase.Querying number staple) instances gathered → IsSoFar sc facts place txn declared (phase.Stapling (number + 1)) (instances ++ own_instance verdict ∷ []) gathered
-own_closed sc facts place txn declared number staple instances gathered verdict punctual low most on right true_one above h =
-    let queries = length declared.queries in
-    let one = own_instance verdict in
-    let not_incremental : is_incremental declared.scheme ≡ false = ap is_incremental punctual in
-    let before : length instances ≡ number - 1 = h.count ∙ ap (λ (s : Scheme). closed_in s queries (phase.Querying number staple)) punctual in
-    let more : length (instances ++ one ∷ []) ≡ length instances + 1 = length_push instances one in
-    let many : length (instances ++ one ∷ []) ≡ number + 1 - 1 = omega (arith, before, more, low) in
-    let numbered : number ≡ 1 + length instances = omega (arith, before, low) in
+-- ---- fronts
+
+-- instances are fronts of what is gathered, and so is one more that is the next
+fronts_more : (instances : List Instance) (next : Instance) (gathered : List Verdict) (shift : ℕ) → next.proofs ≡ take (shift + length instances + 1) gathered
+    → EachAt (λ (n : ℕ) (instance : Instance). instance.proofs ≡ take (shift + n + 1) gathered) instances → EachAt (λ (n : ℕ) (instance : Instance). instance.proofs ≡ take (shift + n + 1) gathered) (instances ++ next ∷ [])
+fronts_more [] next gathered shift e h zero instance there = let same : next ≡ instance = cc in ap (λ (i : Instance). i.proofs) (sym same) ∙ e
+fronts_more [] next gathered shift e h (suc n) instance there = absurd (cc)
+fronts_more (one ∷ instances) next gathered shift e h zero instance there = h zero instance there
+fronts_more (one ∷ instances) next gathered shift e h (suc n) instance there =
+    let further : (k : ℕ) → shift + 1 + k + 1 ≡ shift + suc k + 1 = λ k. omega arith in
+    let all : shift + length (one ∷ instances) + 1 ≡ shift + 1 + length instances + 1 = omega arith in
+    fronts_more instances next gathered (shift + 1) (e ∙ ap (λ (k : ℕ). take k gathered) all)
+    (λ k other found. h (suc k) other found ∙ ap (λ (m : ℕ). take m gathered) (sym (further k))) n instance there
+    ∙ ap (λ (m : ℕ). take m gathered) (further n)
+
+-- ---- an instance is closed
+
+-- what holds of an instance that comes next
+pub record IsNext (sc : Scenario) (facts : List Fact) (declared : Transaction) (instances : List Instance) (next : Instance) : Type 0 where
+  pub demanded : is_instance sc facts declared (1 + length instances) next ≡ true
+  pub follows_last : FollowsLast declared.scheme instances next
+
+-- with it one more is closed, where it is a front if fronts are asked for
+pub next_closed : (sc : Scenario) (facts : List Fact) (place : ℕ) (txn : TxnId) (declared : Transaction) (closed gathers : ℕ) (instances : List Instance) (gathered : List Verdict) (next : Instance) → IsNext sc facts declared instances next
+    → IsTrustedInstance sc facts place txn next → (declared.scheme ≡ scheme.Incremental → next.proofs ≡ take (closed + 1) gathered) → IsSoFar sc facts place txn declared closed gathers instances gathered
+    → IsSoFar sc facts place txn declared (closed + 1) gathers (instances ++ next ∷ []) gathered
+next_closed sc facts place txn declared closed gathers instances gathered next is trusted front h =
     record {
-      count = many ∙ sym (ap (λ (s : Scheme). closed_in s queries (phase.Stapling (number + 1))) punctual);
-      demanded = demanded_more sc facts declared 1 instances one h.demanded (subst (λ (n : ℕ). is_instance sc facts declared n one ≡ true) numbered (own_demanded sc facts declared verdict number punctual most on));
-      follow = follows_more declared.scheme instances one h.follow (follows_last declared.scheme instances gathered one not_incremental (above, tt));
-      trusted = each_append (IsTrustedInstance sc facts place txn) instances (one ∷ []) h.trusted (record { right = (right, tt); have_rules = and_from (has_rule verdict) true true_one refl; timely = tt }, tt);
-      fronts = λ incremental. let same : scheme.Punctual ≡ scheme.Incremental = sym punctual ∙ incremental in absurd (cc);
-      numbers = h.numbers ∙ ap (range_with_len 1) (none_gathered declared.scheme queries (phase.Querying number staple) not_incremental ∙ sym (none_gathered declared.scheme queries (phase.Stapling (number + 1)) not_incremental));
+      count = length_push instances next ∙ ap (λ (n : ℕ). n + 1) h.count;
+      demanded = demanded_more sc facts declared 1 instances next h.demanded is.demanded;
+      follow = follows_more declared.scheme instances next h.follow is.follows_last;
+      trusted = each_append (IsTrustedInstance sc facts place txn) instances (next ∷ []) h.trusted (trusted, tt);
+      fronts = λ incremental n instance there.
+          fronts_more instances next gathered 0 (front incremental ∙ ap (λ (k : ℕ). take k gathered) (sym (ap (λ (k : ℕ). 0 + k + 1) h.count ∙ from_zero closed)))
+          (λ k other found. h.fronts incremental k other found ∙ ap (λ (m : ℕ). take m gathered) (sym (from_zero k))) n instance there
+          ∙ ap (λ (m : ℕ). take m gathered) (from_zero n);
+      numbers = h.numbers;
       right = h.right;
       have_rules = h.have_rules;
-      one_version = h.one_version;
+      pins = h.pins;
       rising = h.rising;
     }
+  where
+    from_zero : (k : ℕ) → 0 + k + 1 ≡ k + 1
+    from_zero k = omega arith
+
+-- the proof of a punctual transaction's query comes next
+pub own_next : (sc : Scenario) (facts : List Fact) (declared : Transaction) (number : ℕ) (instances : List Instance) (gathered : List Verdict) (verdict : Verdict) → declared.scheme ≡ scheme.Punctual → length instances + 1 ≡ number
+    → number ≤ length declared.queries → verdict.query ≡ number → IsAbove verdict.place instances gathered → IsNext sc facts declared instances (own_instance verdict)
+own_next sc facts declared number instances gathered verdict punctual numbered most on above =
+    let this : number ≡ 1 + length instances = omega (arith, numbered) in
+    record {
+      demanded = subst (λ (n : ℕ). is_instance sc facts declared n (own_instance verdict) ≡ true) this (own_demanded sc facts declared verdict number punctual most on);
+      follows_last = follows_last declared.scheme instances gathered (own_instance verdict) (ap is_incremental punctual) (above, tt);
+    }
+
+-- with it what it has closed is what it demands up to its query
+pub own_closed : (sc : Scenario) (facts : List Fact) (place : ℕ) (txn : TxnId) (declared : Transaction) (number gathers : ℕ) (instances : List Instance) (gathered : List Verdict) (verdict : Verdict)
+    → declared.scheme ≡ scheme.Punctual → number + 1 ≤ length declared.queries → verdict.query ≡ number + 1 → Right sc facts place txn verdict → has_rule verdict ≡ true → IsAbove verdict.place instances gathered
+    → IsSoFar sc facts place txn declared number gathers instances gathered → IsSoFar sc facts place txn declared (number + 1) gathers (instances ++ own_instance verdict ∷ []) gathered
+own_closed sc facts place txn declared number gathers instances gathered verdict punctual most on right true_one above h =
+    next_closed sc facts place txn declared number gathers instances gathered (own_instance verdict)
+    (own_next sc facts declared (number + 1) instances gathered verdict punctual (ap (λ (n : ℕ). n + 1) h.count) most on above)
+    (record { right = (right, tt); have_rules = and_from (has_rule verdict) true true_one refl; timely = tt })
+    (λ incremental. let same : scheme.Punctual ≡ scheme.Incremental = sym punctual ∙ incremental in absurd (cc)) h
 
 -- ---- the demand at a commit
 
@@ -375,40 +404,61 @@ pub same_numbers : (numbers : List ℕ) → pointwise ◌==◌ numbers numbers �
 same_numbers [] = refl
 same_numbers (n ∷ numbers) = and_from (n == n) (pointwise ◌==◌ numbers numbers) (number_itself n) (same_numbers numbers)
 
--- with it there are as many as the scheme demands
-closed_all : (chosen : Scheme) (reads : Bool) (queries : ℕ) (awaited : Phase) → is_incremental chosen ≡ false → closed_before queries awaited ≡ queries → closed_in chosen queries awaited + 1 ≡ count_of chosen reads queries
-closed_all scheme.Deferred reads queries awaited e all = refl
-closed_all scheme.Punctual reads queries awaited e all = ap (λ (n : ℕ). n + 1) all
-closed_all scheme.Continuous reads queries awaited e all = ap (λ (n : ℕ). n + 1) all
-closed_all scheme.Incremental reads queries awaited e all = absurd (cc)
+-- so many are closed before it
+abbrev pub closed_before_last : Scheme → ℕ → ℕ
+closed_before_last scheme.Deferred queries = 0
+closed_before_last _ queries = queries
 
--- an instance over all queries, which are to agree
-record IsOverAll (chosen : Scheme) (queries number : ℕ) : Type 0 where
+-- with it there are as many as the scheme demands
+closed_all : (chosen : Scheme) (reads : Bool) (queries : ℕ) → is_incremental chosen ≡ false → closed_before_last chosen queries + 1 ≡ count_of chosen reads queries
+closed_all scheme.Deferred reads queries e = refl
+closed_all scheme.Punctual reads queries e = refl
+closed_all scheme.Continuous reads queries e = refl
+closed_all scheme.Incremental reads queries e = absurd (cc)
+
+-- an instance over the first so many queries, which are to agree
+record IsOver (chosen : Scheme) (queries number many : ℕ) : Type 0 where
   first : first_of chosen queries number ≡ 1
-  many : many_of chosen queries number ≡ queries
+  many_is : many_of chosen queries number ≡ many
   agrees : agrees_at chosen queries number ≡ true
 
-past_all : (queries number : ℕ) → number ≡ 1 + queries → nat_le number queries ≡ false
+past_all : (queries number : ℕ) → number ≡ queries + 1 → nat_le number queries ≡ false
 past_all queries number e = grind (arith, nat_tests)
 
-after_all : (queries number : ℕ) → number ≡ 1 + queries → nat_lt queries number ≡ true
+after_all : (queries number : ℕ) → number ≡ queries + 1 → nat_lt queries number ≡ true
 after_all queries number e = grind (arith, nat_tests)
 
-over_all : (chosen : Scheme) (queries number : ℕ) (awaited : Phase) → is_incremental chosen ≡ false → closed_before queries awaited ≡ queries → number ≡ 1 + closed_in chosen queries awaited → IsOverAll chosen queries number
-over_all scheme.Deferred queries number awaited e all is = record { first = refl; many = refl; agrees = refl }
-over_all scheme.Punctual queries number awaited e all is =
-    let last : number ≡ 1 + queries = is ∙ ap (λ (n : ℕ). 1 + n) all in
-    record { first = ap (λ (b : Bool). if b then number else 1) (past_all queries number last); many = ap (λ (b : Bool). if b then 1 else queries) (past_all queries number last); agrees = after_all queries number last }
-over_all scheme.Continuous queries number awaited e all is =
-    let last : number ≡ 1 + queries = is ∙ ap (λ (n : ℕ). 1 + n) all in
-    record { first = refl; many = omega (arith, last); agrees = refl }
-over_all scheme.Incremental queries number awaited e all is = absurd (cc)
+over_all : (chosen : Scheme) (queries number : ℕ) → is_incremental chosen ≡ false → number ≡ closed_before_last chosen queries + 1 → IsOver chosen queries number queries
+over_all scheme.Deferred queries number e is = record { first = refl; many_is = refl; agrees = refl }
+over_all scheme.Punctual queries number e is =
+    record { first = ap (λ (b : Bool). if b then number else 1) (past_all queries number is); many_is = ap (λ (b : Bool). if b then 1 else queries) (past_all queries number is); agrees = after_all queries number is }
+over_all scheme.Continuous queries number e is = record { first = refl; many_is = omega (arith, is); agrees = refl }
+over_all scheme.Incremental queries number e is = absurd (cc)
 
-demanded_last : (sc : Scenario) (facts : List Fact) (declared : Transaction) (number : ℕ) (last : Instance) → IsOverAll declared.scheme (length declared.queries) number → is_over 1 (length declared.queries) last.proofs ≡ true
-    → is_consistent sc declared facts last ≡ true → is_instance sc facts declared number last ≡ true
-demanded_last sc facts declared number last h over consistent =
-    and_from _ _ (ap (λ (first : ℕ). is_over first (many_of declared.scheme (length declared.queries) number) last.proofs) h.first ∙ (ap (λ (many : ℕ). is_over 1 many last.proofs) h.many ∙ over))
-    (ap (λ (b : Bool). if b then is_consistent sc declared facts last else is_none last.reading) h.agrees ∙ consistent)
+-- each of a continuous transaction's is over the queries up to its number
+over_some : (chosen : Scheme) (queries number : ℕ) → chosen ≡ scheme.Continuous → number ≤ queries → IsOver chosen queries number number
+over_some scheme.Continuous queries number e most = record { first = refl; many_is = omega (arith, most); agrees = refl }
+over_some scheme.Deferred queries number e most = absurd (cc)
+over_some scheme.Punctual queries number e most = absurd (cc)
+over_some scheme.Incremental queries number e most = absurd (cc)
+
+demanded_over : (sc : Scenario) (facts : List Fact) (declared : Transaction) (number many : ℕ) (next : Instance) → IsOver declared.scheme (length declared.queries) number many → numbers_of next.proofs ≡ range_with_len 1 many
+    → is_consistent sc declared facts next ≡ true → is_instance sc facts declared number next ≡ true
+demanded_over sc facts declared number many next h numbers consistent =
+    let queries = length declared.queries in
+    let over : is_over 1 many next.proofs ≡ true = ap (λ (ns : List ℕ). pointwise ◌==◌ ns (range_with_len 1 many)) numbers ∙ same_numbers (range_with_len 1 many) in
+    and_from _ _ (ap (λ (first : ℕ). is_over first (many_of declared.scheme queries number) next.proofs) h.first ∙ (ap (λ (n : ℕ). is_over 1 n next.proofs) h.many_is ∙ over))
+    (ap (λ (b : Bool). if b then is_consistent sc declared facts next else is_none next.reading) h.agrees ∙ consistent)
+
+-- proofs of the queries up to one, made after all that is closed and consistent, are a continuous transaction's next instance
+pub validated_next : (sc : Scenario) (facts : List Fact) (declared : Transaction) (number : ℕ) (instances : List Instance) (gathered : List Verdict) (next : Instance) → declared.scheme ≡ scheme.Continuous → length instances + 1 ≡ number
+    → number ≤ length declared.queries → numbers_of next.proofs ≡ range_with_len 1 number → is_consistent sc declared facts next ≡ true → AreAbove instances gathered next.proofs → IsNext sc facts declared instances next
+validated_next sc facts declared number instances gathered next continuous numbered most numbers consistent above =
+    let this : 1 + length instances ≡ number = omega (arith, numbered) in
+    record {
+      demanded = demanded_over sc facts declared (1 + length instances) number next (subst (λ (n : ℕ). IsOver declared.scheme (length declared.queries) n number) (sym this) (over_some declared.scheme (length declared.queries) number continuous most)) numbers consistent;
+      follows_last = follows_last declared.scheme instances gathered next (ap is_incremental continuous) above;
+    }
 
 rounds_counted : (sc : Scenario) (declared : Transaction) (rounds : ℕ) → is_incremental declared.scheme ≡ false → (1 ≤ rounds) × (rounds ≤ most_rounds sc declared) → is_round_count sc declared rounds ≡ true
 rounds_counted sc declared rounds e h =
@@ -416,17 +466,17 @@ rounds_counted sc declared rounds e h =
     ∙ and_from _ _ (le-leb 1 rounds h.0) (le-leb rounds (most_rounds sc declared) h.1)
 
 -- proofs of all queries, made after all that is closed and consistent, close the last instance of a transaction that evaluates at commit
-pub closing_commit : (sc : Scenario) (facts : List Fact) (place : ℕ) (txn : TxnId) (declared : Transaction) (awaited : Phase) (instances : List Instance) (gathered : List Verdict) (last : Instance) (committed : CommitRecord)
-    → is_incremental declared.scheme ≡ false → closed_before (length declared.queries) awaited ≡ length declared.queries → IsSoFar sc facts place txn declared awaited instances gathered
+pub closing_commit : (sc : Scenario) (facts : List Fact) (place : ℕ) (txn : TxnId) (declared : Transaction) (gathers : ℕ) (instances : List Instance) (gathered : List Verdict) (last : Instance) (committed : CommitRecord)
+    → is_incremental declared.scheme ≡ false → IsSoFar sc facts place txn declared (closed_before_last declared.scheme (length declared.queries)) gathers instances gathered
     → committed.instances ≡ instances ++ last ∷ [] → (1 ≤ committed.rounds) × (committed.rounds ≤ most_rounds sc declared) → numbers_of last.proofs ≡ range_with_len 1 (length declared.queries)
     → is_consistent sc declared facts last ≡ true → AreAbove instances gathered last.proofs → IsTrustedInstance sc facts place txn last → IsTrustedCommit sc facts place txn declared committed
-closing_commit sc facts place txn declared awaited instances gathered last committed evaluates all h is rounds numbers consistent above trusted =
+closing_commit sc facts place txn declared gathers instances gathered last committed evaluates h is rounds numbers consistent above trusted =
     let queries = length declared.queries in
-    let numbered : 1 + length instances ≡ 1 + closed_in declared.scheme queries awaited = ap (λ (n : ℕ). 1 + n) h.count in
-    let over : is_over 1 queries last.proofs ≡ true = ap (λ (ns : List ℕ). pointwise ◌==◌ ns (range_with_len 1 queries)) numbers ∙ same_numbers (range_with_len 1 queries) in
+    let one_more : length instances + 1 ≡ closed_before_last declared.scheme queries + 1 = ap (λ (n : ℕ). n + 1) h.count in
+    let numbered : 1 + length instances ≡ closed_before_last declared.scheme queries + 1 = omega (arith, one_more) in
     record {
-      demanded = demand_met sc facts declared committed instances last is (ap (λ (n : ℕ). n + 1) h.count ∙ closed_all declared.scheme (reads_master sc declared) queries awaited evaluates all) h.demanded h.follow
-          (demanded_last sc facts declared (1 + length instances) last (over_all declared.scheme queries (1 + length instances) awaited evaluates all numbered) over consistent)
+      demanded = demand_met sc facts declared committed instances last is (one_more ∙ closed_all declared.scheme (reads_master sc declared) queries evaluates) h.demanded h.follow
+          (demanded_over sc facts declared (1 + length instances) queries last (over_all declared.scheme queries (1 + length instances) evaluates numbered) numbers consistent)
           (follows_last declared.scheme instances gathered last evaluates above) (rounds_counted sc declared committed.rounds evaluates rounds);
       trusted = subst (Each (IsTrustedInstance sc facts place txn)) (sym is) (each_append (IsTrustedInstance sc facts place txn) instances (last ∷ []) h.trusted (trusted, tt));
     }

@@ -1,20 +1,20 @@
 -- Trust: what a server keeps of a transaction, as the letters that it is or would be: answers, a query that waits, and votes.
-use Rattle.std.proofs.Common.{IfSome, List, None, Option, Some, is_none, subst, true, ℕ, ◌≡◌}
+use Rattle.std.proofs.Common.{IfSome, List, None, Option, Some, subst, ℕ, ◌≡◌}
 use Rattle.std.proofs.lemmas.Option.{cond_some}
+use Rattle.tp_types.proofs.EachLemmas.{each_as}
+use Rattle.tp_types.specs.Each.{Each, EachPlaced}
 use Rattle.tp_model.specs.Ids.{same_txn}
 use Rattle.tp_model.specs.Words.{Body, DoneReply, Fact, Prepared, QueryRequest, Record, Scenario, TxnId}
 use Rattle.tp_model.specs.Words.body
 use Rattle.tp_model.specs.Words.log
 use Rattle.tp_model.specs.Words.vote
-use Rattle.tp_recover.specs.Log.{preparation_in, prepared_in}
 use Rattle.tp_machine.specs.Machine.{log_with}
 use Rattle.tp_machine.specs.Parts.{Part}
-use Rattle.tp_types.specs.Each.{Each, EachPlaced}
+use Rattle.tp_recover.specs.Log.{preparation_in, prepared_in}
+use Rattle.tp_server.specs.State.{Server}
 use Rattle.tp_server.specs.declared.server.Ballot.{Ballot}
 use Rattle.tp_server.specs.declared.server.Entry.{Entry}
-use Rattle.tp_server.specs.State.{Server}
 use Rattle.tp_runs.proofs.basics.Logs.{appended, prepared_either}
-use Rattle.tp_types.proofs.EachLemmas.{each_as}
 use Rattle.tp_runs.proofs.trust.Fit.{BodyFits, Later, body_stays, maybe_stays}
 
 -- ---- T of all that is kept
@@ -26,11 +26,10 @@ vote_cast txn cast = body.Vote (record { txn = txn; turn = cast.turn; vote = vot
 abbrev pub vote_of : Prepared → Body
 vote_of p = body.Vote (record { txn = p.txn; turn = p.turn; vote = vote.Yes p.verdicts })
 
--- T of each answer that an entry keeps, of the query that waits, which was asked without a pin, and of its vote
+-- T of each answer that an entry keeps, of the query that waits, and of its vote
 pub record IsKept (T : Body → Type 0) (txn : TxnId) (entry : Entry) : Type 0 where
   pub answers : Each (λ (done : DoneReply). T (body.Done done)) entry.answers
   pub waiting : IfSome entry.waiting (λ (q : QueryRequest). T (body.Query q))
-  pub unpinned : IfSome entry.waiting (λ (q : QueryRequest). is_none q.pin ≡ true)
   pub ballot : IfSome entry.ballot (λ (cast : Ballot). T (vote_cast txn cast))
 
 abbrev pub AreKept : (Body → Type 0) → Server → Type 0
@@ -52,7 +51,6 @@ entry_as T U txn entry step h =
     record {
       answers = each_as (λ (done : DoneReply). T (body.Done done)) (λ (done : DoneReply). U (body.Done done)) (λ done t. step (body.Done done) t) entry.answers h.answers;
       waiting = maybe_stays (λ (q : QueryRequest). T (body.Query q)) (λ (q : QueryRequest). U (body.Query q)) entry.waiting (λ q t. step (body.Query q) t) h.waiting;
-      unpinned = h.unpinned;
       ballot = maybe_stays (λ (cast : Ballot). T (vote_cast txn cast)) (λ (cast : Ballot). U (vote_cast txn cast)) entry.ballot (λ cast t. step (vote_cast txn cast) t) h.ballot;
     }
 

@@ -160,7 +160,7 @@ reads_by_level sc declared true e some on = global_reads sc declared e declared.
 reads_global : (sc : Scenario) (n : ℕ) (declared : Transaction) → HaveHomes sc → slice_get sc.txns n ≡ Some declared → reads_master sc declared ≡ is_global declared.level
 reads_global sc n declared homes found = reads_by_level sc declared (is_global declared.level) refl (homes.some n declared found) (homes.on_items n declared found)
 
-read_level : (b : Bool) → is_global (if b then level.Global else level.View) ≡ b
+pub read_level : (b : Bool) → is_global (if b then level.Global else level.View) ≡ b
 read_level true = refl
 read_level false = refl
 

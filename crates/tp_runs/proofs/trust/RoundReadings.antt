@@ -93,7 +93,7 @@ newest_of sc facts place txn round reading declared verdict fit exists r at glob
     ∙ (ap (λ (b : Bool). cond b (newest_in (Some reading) verdict.admin) (greatest verdict.admin (proofs_in round.targets))) (fit verdict.admin exists ∙ global)
     ∙ r.newest_is verdict.admin exists)
 
-meets_by : (sc : Scenario) (facts : List Fact) (declared : Transaction) (read : ℕ) (verdict : Verdict) (b : Bool) → is_global (level_of declared verdict.admin) ≡ b → (b ≡ true → verdict.version.0 ≡ newest sc verdict.admin read facts)
+pub meets_by : (sc : Scenario) (facts : List Fact) (declared : Transaction) (read : ℕ) (verdict : Verdict) (b : Bool) → is_global (level_of declared verdict.admin) ≡ b → (b ≡ true → verdict.version.0 ≡ newest sc verdict.admin read facts)
     → verdict.place < read → (if b then is_newest_proof sc read facts verdict else nat_lt verdict.place read) ≡ true
 meets_by sc facts declared read verdict true e new past = and_from _ _ (eq-eqb verdict.version.0 (newest sc verdict.admin read facts) (new refl)) (lt-ltb verdict.place read past)
 meets_by sc facts declared read verdict false e new past = lt-ltb verdict.place read past

@@ -1,5 +1,5 @@
 -- Rounds of a coordinator: what a round rests on, at its start, as facts are added, and after each reply.
-use Rattle.std.proofs.Common.{Bool, IfSome, List, None, Option, Some, [], ap, arith, cond, false, find, inl, inr, is_none, length, map, refl, slice_get, subst, suc, sym, true, zero, ℕ, if◌then◌else◌, ◌+◌, ◌<◌, ◌==◌, ◌||◌, ◌∙◌, ◌∷◌, ◌≡◌, ◌≤◌, ◌⊎◌}
+use Rattle.std.proofs.Common.{Bool, IfSome, List, None, Option, Some, [], ap, arith, cond, false, find, inl, inr, is_none, length, map, refl, slice_get, subst, suc, sym, take, true, zero, ℕ, if◌then◌else◌, ◌+◌, ◌<◌, ◌==◌, ◌||◌, ◌∙◌, ◌∷◌, ◌≡◌, ◌≤◌, ◌⊎◌}
 use Rattle.std.proofs.lemmas.Bool.{and_from, and_parts, eq-eqb, eqb-true}
 use Rattle.std.specs.List.{count_by, list_all, list_any}
 use Rattle.std.specs.Option.{option_map_or}
@@ -38,7 +38,7 @@ use Rattle.tp_runs.proofs.basics.Servers.{has_item_over, servers_over, servers_o
 use Rattle.tp_runs.proofs.basics.Turns.{WantNow}
 use Rattle.tp_runs.proofs.basics.Verdicts.{numbers_of}
 use Rattle.tp_runs.proofs.pairs.Actors.{site_of}
-use Rattle.tp_runs.proofs.pairs.CoordinatorRows.{NamesAt}
+use Rattle.tp_runs.proofs.pairs.CoordinatorRows.{NamesAt, NamesOver}
 use Rattle.tp_runs.proofs.pairs.Fits.{Names, NamesUpto}
 use Rattle.tp_runs.proofs.pairs.Site.{Site, here, here_within, upto, with_number}
 use Rattle.tp_runs.proofs.trust.Causes.{met_on_stays, met_past, mets_stay}
@@ -359,6 +359,27 @@ names_by sc facts place txn round declared e (inr later) =
 pub round_names : (sc : Scenario) (facts : List Fact) (place : ℕ) (txn : TxnId) (round : Round) (declared : Transaction) → slice_get sc.txns txn.0 ≡ Some declared → RoundFits sc facts place txn span.Commit round
     → Each (NamesAt sc declared round) (missing_in round.targets)
 round_names sc facts place txn round declared e h = names_by sc facts place txn round declared e h.count
+
+take_reaches : (queries : List Query) (last number : ℕ) → number ≤ last → number ≤ length queries → number ≤ length (take last queries)
+take_reaches [] zero number low within = omega (arith, low)
+take_reaches [] (suc last) number low within = omega (arith, within)
+take_reaches (first ∷ queries) zero number low within = omega (arith, low)
+take_reaches (first ∷ queries) (suc last) zero low within = omega arith
+take_reaches (first ∷ queries) (suc last) (suc number) low within = let later = take_reaches queries last number (omega (arith, low)) (omega (arith, within)) in omega (arith, later)
+
+names_so_far : (sc : Scenario) (facts : List Fact) (place : ℕ) (txn : TxnId) (last : ℕ) (round : Round) (declared : Transaction) → slice_get sc.txns txn.0 ≡ Some declared
+    → IsFirstRound round ⊎ IsLaterRound sc facts place txn (span.Validate last) round → Each (NamesOver sc declared (span.Validate last) round) (missing_in round.targets)
+names_so_far sc facts place txn last round declared e (inl first) = each_of_all _ (λ at. inl (ap is_empty (first_wants round at first))) (missing_in round.targets)
+names_so_far sc facts place txn last round declared e (inr later) =
+    each_as (λ (at : ServerId). IsNamedFor sc txn (span.Validate last) at (want_in round.named at)) (NamesOver sc declared (span.Validate last) round)
+    (λ at named. inr (λ number admin low own. named declared e number admin (take_reaches declared.queries last number low (here_within (site_of sc at.0 declared) number (own_here sc declared number at admin own)).1) own))
+    (missing_in round.targets) (named_missing sc txn (span.Validate last) round.named round.targets later.covers)
+
+-- and in every round those of the queries that it is over
+pub span_names : (sc : Scenario) (facts : List Fact) (place : ℕ) (txn : TxnId) (over : Span) (round : Round) (declared : Transaction) → slice_get sc.txns txn.0 ≡ Some declared → RoundFits sc facts place txn over round
+    → Each (NamesOver sc declared over round) (missing_in round.targets)
+span_names sc facts place txn (span.Validate last) round declared e h = names_so_far sc facts place txn last round declared e h.count
+span_names sc facts place txn span.Commit round declared e h = round_names sc facts place txn round declared e h
 
 -- a server of the queries that a round is over has one of them, of some administrator
 record HasOwn (sc : Scenario) (over : Span) (declared : Transaction) (at : ServerId) : Type 0 where

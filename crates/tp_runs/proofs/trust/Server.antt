@@ -1,60 +1,44 @@
 -- Trust, the server's rows: verdicts are right at the place of the staple, and there is one for each query.
-use Rattle.std.proofs.Common.{IfSome, List, None, Option, Some, [], ap, arith, false, inl, inr, is_none, is_some, length, not, option_and_then, option_map, refl, slice_get, subst, suc, sym, true, unwrap_or, zero, ℕ, ℤ, ⊎_elim, ◌==◌, ◌∙◌, ◌∷◌, ◌≡◌, ◌≤◌, ◌⊎◌}
-use Rattle.std.proofs.lemmas.Bool.{and_from, eqb-true}
+use Rattle.std.proofs.Common.{Bool, IfSome, List, None, Option, Some, [], ap, arith, false, is_none, is_some, length, max, nat_lt, not, option_and_then, option_map, refl, slice_get, slice_set, subst, suc, sym, true, unwrap_or, zero, ℕ, ℤ, if◌then◌else◌, ◌-◌, ◌<◌, ◌==◌, ◌∙◌, ◌∷◌, ◌≡◌, ◌≤◌, ◌⊎◌, ⊎_elim}
+use Rattle.std.proofs.lemmas.Bool.{and_from, ltb-false, ltb-true}
 use Rattle.std.proofs.lemmas.Option.{same_Some}
-use Rattle.std.specs.List.{list_all}
 use Rattle.std.specs.Option.{option_map_or}
-use Rattle.tp_types.proofs.EachLemmas.{each_append, each_as, each_found, each_get, each_map, each_more, placed_emptied, placed_set, some_if_not_none}
+use Rattle.tp_types.proofs.EachLemmas.{each_append, each_get, each_more, placed_set, some_if_not_none}
 use Rattle.tp_types.proofs.ListLemmas.{number_itself}
 use Rattle.tp_types.specs.Each.{Each}
 use Rattle.tp_types.specs.Effect.{Effect, ignores, sends}
 use Rattle.tp_model.specs.Authorisation.{is_item_at, is_own_query, is_query_at, library_version, policy_at, version_of}
 use Rattle.tp_model.specs.Deeds.{deed_of}
-use Rattle.tp_model.specs.Limits.{is_empty}
 use Rattle.tp_model.specs.Queries.{item_of, query_at}
 use Rattle.tp_model.specs.Versions.{newest}
-use Rattle.tp_model.specs.Words.{Actor, AdminId, Answer, Body, Deed, DoneReply, Fact, Item, Letter, Mail, No, Policy, PrepareRequest, PushNotice, Query, QueryRequest, Record, Scenario, ServerId, Settled, Staple, Transaction, TxnId, Verdict, Version}
-use Rattle.tp_model.specs.Words.actor
+use Rattle.tp_model.specs.Words.{AdminId, Answer, Body, Deed, DoneReply, Fact, Item, Letter, Mail, Newer, Policy, Query, QueryRequest, Record, Scenario, ServerId, Staple, Transaction, TxnId, Verdict, Version}
 use Rattle.tp_model.specs.Words.answer
 use Rattle.tp_model.specs.Words.body
-use Rattle.tp_model.specs.Words.vote
 use Rattle.tp_coord.specs.State.{Coordinator}
 use Rattle.tp_coord.specs.declared.coordinator.Phase.{Phase}
 use Rattle.tp_coord.specs.declared.coordinator.Phase.TheVariants as phase
 use Rattle.tp_lock.specs.declared.entry.Grant.{Grant}
 use Rattle.tp_machine.specs.Named.{IsAdmin, IsTxn}
-use Rattle.tp_recover.specs.Kept.{kept}
-use Rattle.tp_round.specs.Judge.{is_aimed}
-use Rattle.tp_round.specs.Laws.{wanted_of}
-use Rattle.tp_round.specs.declared.round.Round.{Round}
-use Rattle.tp_scheme.specs.Gathered.{closed, pin_of}
+use Rattle.tp_scheme.specs.Gathered.{pin_of}
 use Rattle.tp_server.proofs.RightVerdicts.{evaluate_right}
-use Rattle.tp_server.proofs.Rows.{AreRightWaits, IsAsking, IsDenied, IsFirstHere, IsFurther, IsResumed, IsRunning, denying, resuming, server_by, unwaiting}
+use Rattle.tp_server.proofs.Rows.{IsAsking, IsDenied, IsFirstHere, IsFurther, IsResumed, IsRunning, refusing, resuming, unwaiting}
 use Rattle.tp_server.specs.Evaluation.{IsRightVerdict}
-use Rattle.tp_server.specs.Row.{ack_letter, answers, answers_with, closes, completes, entry_after, entry_at, followed_by, learns, no_letter, ran_as, refused_as, reply_of, server_row, settled_as, verdict_at, votes_on, waits, with_entry, yes_letter}
+use Rattle.tp_server.specs.Row.{answers, answers_with, completes, entry_after, followed_by, newer_known, pinned, ran_as, reply_of, verdict_at, with_entry}
 use Rattle.tp_server.specs.State.{Server}
-use Rattle.tp_server.specs.Verdicts.{admin_of, verdict_on, verdicts_on, version_known, version_or, version_used, with_wants}
-use Rattle.tp_server.specs.declared.server.Ballot.{Ballot}
+use Rattle.tp_server.specs.Verdicts.{admin_of, verdict_on, version_known, version_used, with_pin}
 use Rattle.tp_server.specs.declared.server.Entry.{Entry}
-use Rattle.tp_runs.proofs.basics.Aims.{is_within, wanted_aimed}
+use Rattle.tp_store.specs.Rule.{greater}
 use Rattle.tp_runs.proofs.basics.Ids.{admin_number}
-use Rattle.tp_runs.proofs.basics.Stores.{ended_known, kept_known}
-use Rattle.tp_runs.proofs.basics.Turns.{AimedVote, Answers, DoneNow, IsAskedSo, IsClosed, IsOnQuery, PrepareNow, ProvesSome, QueryNow, RanNow, Stamp, VoteNow, WantNow, admin_asked, admin_of_query, stamp_of}
+use Rattle.tp_runs.proofs.basics.Stores.{kept_known}
+use Rattle.tp_runs.proofs.basics.Turns.{Answers, DoneNow, IsAskedSo, IsClosed, IsOnQuery, QueryNow, RanNow, Stamp, admin_asked, admin_of_query, stamp_of}
 use Rattle.tp_runs.proofs.basics.Verdicts.{IsProvedAt, proved_at, unproved_at}
-use Rattle.tp_runs.proofs.basics.Versions.{known_most, learnt_most, used_by}
-use Rattle.tp_runs.proofs.ids.Server.{deed_sound, verdict_query}
+use Rattle.tp_runs.proofs.basics.Versions.{known_most, used_by}
+use Rattle.tp_runs.proofs.ids.Server.{verdict_query}
 use Rattle.tp_runs.proofs.ids.Valid.{IsValid, IsValidItem}
-use Rattle.tp_runs.proofs.pairs.Actors.{BodyPairs, site_of}
-use Rattle.tp_runs.proofs.pairs.Entries.{keeps}
-use Rattle.tp_runs.proofs.pairs.Fits.{Names}
-use Rattle.tp_runs.proofs.pairs.Letters.{says}
-use Rattle.tp_runs.proofs.pairs.Pair.{Pair}
-use Rattle.tp_runs.proofs.pairs.Ran.{ran}
-use Rattle.tp_runs.proofs.pairs.Site.{here}
 use Rattle.tp_runs.proofs.trust.Coordinator.{declared_there}
-use Rattle.tp_runs.proofs.trust.Fit.{AnswerFits, BodyFits, IsPublished, IsRight, Right, ServerFits, StapleFits}
-use Rattle.tp_runs.proofs.trust.Kept.{AreKept, IsKept, IsTrusted, RecordKept, vote_cast}
-use Rattle.tp_runs.specs.Sound.{IsQueryAt, IsSoundBody, IsSoundDeedAt, IsSoundEntry, IsSoundServer, IsVersion, query_in}
+use Rattle.tp_runs.proofs.trust.Fit.{AnswerFits, BodyFits, IsPublished, IsRight, NewerFits, QueryFits, Right, ServerFits, StapleFits, maybe_stays}
+use Rattle.tp_runs.proofs.trust.Kept.{AreKept, IsKept, IsTrusted, RecordKept}
+use Rattle.tp_runs.specs.Sound.{IsQueryAt, IsSoundDeedAt, IsVersion, query_in}
 
 -- an act of a server: what it is after it, if it is up, fits; what it keeps and forced, and its letters, fit too and T of them. T is closed
 -- under answers, and is so of the mail
@@ -74,7 +58,7 @@ pub record ServerTrusted (sc : Scenario) (facts : List Fact) (place : ℕ) (T : 
   pub fits : ServerFits sc facts place s
   pub keeps : AreKept (IsTrusted sc facts place T) s
 
-ignores_trusts_in_server : (sc : Scenario) (facts : List Fact) (place : ℕ) (T : Body → Type 0) (s : Server) → ServerTrusted sc facts place T s → RowTrusts sc facts place T (ignores s)
+pub ignores_trusts_in_server : (sc : Scenario) (facts : List Fact) (place : ℕ) (T : Body → Type 0) (s : Server) → ServerTrusted sc facts place T s → RowTrusts sc facts place T (ignores s)
 ignores_trusts_in_server sc facts place T s h = record { fits = h.fits; keeps = h.keeps; forces = tt; says = tt; timely = tt }
 
 -- ---- verdicts
@@ -83,7 +67,7 @@ found_query : (sc : Scenario) (txn : TxnId) (declared : Transaction) (number : �
 found_query sc txn declared number asked e f = sym (ap (λ (found : Option Transaction). option_and_then (λ (d : Transaction). query_at d number) found) e) ∙ f
 
 -- the verdict names a query of the transaction with its server and its administrator
-own_query : (sc : Scenario) (txn : TxnId) (declared : Transaction) (number : ℕ) (at : ServerId) (admin : AdminId) → slice_get sc.txns txn.0 ≡ Some declared → (q : IsQueryAt sc txn number at admin)
+pub own_query : (sc : Scenario) (txn : TxnId) (declared : Transaction) (number : ℕ) (at : ServerId) (admin : AdminId) → slice_get sc.txns txn.0 ≡ Some declared → (q : IsQueryAt sc txn number at admin)
     → is_own_query sc declared number at admin ≡ true
 own_query sc txn declared number at admin e q =
     ap (λ (found : Option Query). option_map_or (is_query_at sc at admin) found false) (found_query sc txn declared number q.asked e q.asked_is)
@@ -109,7 +93,7 @@ used_published : (sc : Scenario) (facts : List Fact) (place : ℕ) (s : Server) 
 used_published sc facts place s want admin h w within = used_by (λ (a : AdminId) (version : Version). version.0 ≤ newest sc a place facts) s want admin w (h.known admin within)
 
 -- what a server's evaluation gives is right: a staple has the clock and the revocations of its place
-verdict_right : (sc : Scenario) (facts : List Fact) (place : ℕ) (s : Server) (txn : TxnId) (presenting : Transaction) (staple : Staple) (want : List (AdminId × Version)) (deed : Deed) → IsValid sc → ServerFits sc facts place s
+pub verdict_right : (sc : Scenario) (facts : List Fact) (place : ℕ) (s : Server) (txn : TxnId) (presenting : Transaction) (staple : Staple) (want : List (AdminId × Version)) (deed : Deed) → IsValid sc → ServerFits sc facts place s
     → Each (IsPublished sc facts place) want → slice_get sc.txns txn.0 ≡ Some presenting → StapleFits sc facts place txn staple → IsSoundDeedAt sc s.server txn deed
     → Right sc facts place txn (verdict_on sc s presenting staple want deed)
 verdict_right sc facts place s txn presenting staple want deed valid h published there fits d declared e =
@@ -128,41 +112,121 @@ verdict_right sc facts place s txn presenting staple want deed valid h published
       published = used_published sc facts place s want verdict.admin h published within;
     })
 
+-- ---- pins
+
+-- the version that a server knows is newer than the pinned one
+record IsNewer (s : Server) (admin : AdminId) (pin : Option Version) (newer : Newer) : Type 0 where
+  admin_is : newer.admin ≡ admin
+  pin_is : pin ≡ Some newer.used
+  found_is : newer.found ≡ version_known s admin
+  above : newer.used.0 < newer.found.0
+
+newer_is : (s : Server) (admin : AdminId) (pin : Option Version) (newer : Newer) → newer_known s admin pin ≡ Some newer → IsNewer s admin pin newer
+newer_is s admin None newer e = absurd (cc)
+newer_is s admin (Some pin) newer e = by_test (nat_lt pin.0 (version_known s admin).0) refl e
+  where
+    by_test : (b : Bool) → nat_lt pin.0 (version_known s admin).0 ≡ b → (if b then Some (record { admin = admin; used = pin; found = version_known s admin }) else None) ≡ Some newer → IsNewer s admin (Some pin) newer
+    by_test false f g = absurd (cc)
+    by_test true f g =
+        let same : record { admin = admin; used = pin; found = version_known s admin } ≡ newer = same_Some (record { admin = admin; used = pin; found = version_known s admin }) newer g in
+        subst (λ (n : Newer). IsNewer s admin (Some pin) n) same (record { admin_is = refl; pin_is = refl; found_is = refl; above = ltb-true pin.0 (version_known s admin).0 f })
+
+-- what is written at a place stands there
+set_there : (versions : List Version) (n : ℕ) (new default : Version) → n < length versions → unwrap_or (slice_get (slice_set versions n new) n) default ≡ new
+set_there [] n new default within = absurd (omega (arith, within))
+set_there (version ∷ versions) zero new default within = refl
+set_there (version ∷ versions) (suc n) new default within = set_there versions n new default (omega (arith, within))
+
+pub set_long : (versions : List Version) (n : ℕ) (new : Version) → length (slice_set versions n new) ≡ length versions
+set_long [] n new = refl
+set_long (version ∷ versions) zero new = refl
+set_long (version ∷ versions) (suc n) new = let rest = set_long versions n new in omega (arith, rest)
+
+greater_is : (one other : Version) → one.0 ≤ other.0 → greater one other ≡ other
+greater_is one other low = ap (λ (n : ℕ). record { 0 = n }) (the_greater one.0 other.0 low)
+  where
+    the_greater : (a b : ℕ) → a ≤ b → max a b ≡ b
+    the_greater a b le = omega (arith, le)
+
+-- where none is newer, the version that is then known is the pinned one
+pinned_known : (s : Server) (admin : AdminId) (pin : Option Version) → newer_known s admin pin ≡ None → admin.0 < length s.store.known → IfSome pin (λ (one : Version). version_known (with_pin s admin pin) admin ≡ one)
+pinned_known s admin None none within = tt
+pinned_known s admin (Some pin) none within =
+    set_there s.store.known admin.0 (greater (version_known s admin) pin) (record { 0 = 1 }) within ∙ greater_is (version_known s admin) pin (by_test (nat_lt pin.0 (version_known s admin).0) refl)
+  where
+    newer_if : Bool → Option Newer
+    newer_if b = if b then Some (record { admin = admin; used = pin; found = version_known s admin }) else None
+
+    by_test : (b : Bool) → nat_lt pin.0 (version_known s admin).0 ≡ b → (version_known s admin).0 ≤ pin.0
+    by_test true f = let wrong : None ≡ newer_if true = sym none ∙ ap newer_if f in absurd (cc)
+    by_test false f = ltb-false pin.0 (version_known s admin).0 f
+
+-- it is none above the newest, if the pinned one is not
+pub pinned_fits : (sc : Scenario) (facts : List Fact) (place : ℕ) (s : Server) (admin : AdminId) (pin : Option Version) → ServerFits sc facts place s → IfSome pin (λ (one : Version). IsPublished sc facts place (admin, one))
+    → ServerFits sc facts place (with_pin s admin pin)
+pinned_fits sc facts place s admin None h low = record { known = h.known }
+pinned_fits sc facts place s admin (Some pin) h low =
+    record {
+      known = λ other within.
+          known_most s.store admin other pin (newest sc other place facts) (h.known other within) (λ same. subst (λ (a : AdminId). pin.0 ≤ newest sc a place facts) (ap admin_number same) low);
+    }
+
+pub pinned_long : (s : Server) (admin : AdminId) (pin : Option Version) → length (with_pin s admin pin).store.known ≡ length s.store.known
+pinned_long s admin None = refl
+pinned_long s admin (Some pin) = set_long s.store.known admin.0 (greater (version_known s admin) pin)
+
+-- the administrator of the item of a deed is one of the scenario's
+pub deed_admin : (sc : Scenario) (at : ServerId) (txn : TxnId) (deed : Deed) → IsValid sc → IsSoundDeedAt sc at txn deed → IsAdmin sc (admin_of sc deed.item)
+deed_admin sc at txn deed valid d =
+    let on : IsQueryAt sc txn deed.query at (admin_of sc deed.item) = verdict_query sc at txn deed d in
+    subst (IsAdmin sc) on.admin_is (each_get (IsValidItem sc) sc.items (item_of on.asked).0 on.kept.declared valid.items on.kept.declared_is).admin
+
 -- ---- Query
 
 -- what a server knows
-knows_as : (sc : Scenario) (facts : List Fact) (place : ℕ) (s now : Server) → now.store.known ≡ s.store.known → ServerFits sc facts place s → ServerFits sc facts place now
+pub knows_as : (sc : Scenario) (facts : List Fact) (place : ℕ) (s now : Server) → now.store.known ≡ s.store.known → ServerFits sc facts place s → ServerFits sc facts place now
 knows_as sc facts place s now same h =
     record { known = λ admin within. subst (λ (known : List Version). (unwrap_or (slice_get known admin.0) (record { 0 = 1 })).0 ≤ newest sc admin place facts) (sym same) (h.known admin within) }
 
--- a query that has its lock: it pins no version, its staple fits, it is of a transaction of the scenario, and what it does is on an item of
--- the server
-record IsQueryHere (sc : Scenario) (facts : List Fact) (place : ℕ) (s : Server) (q : QueryRequest) (deed : Deed) : Type 0 where
-  unpinned : is_none q.pin ≡ true
-  stapled : IfSome q.staple (StapleFits sc facts place q.txn)
-  exists : IsTxn sc q.txn
-  numbered : deed.query ≡ q.query
-  sound : IsSoundDeedAt sc s.server q.txn deed
+-- a query that has its lock: its staple fits, its pin is none above the newest, it is of a transaction of the scenario, and what it does is on an
+-- item of the server
+pub record IsAskedHere (sc : Scenario) (facts : List Fact) (place : ℕ) (at : ServerId) (q : QueryRequest) (deed : Deed) : Type 0 where
+  pub stapled : IfSome q.staple (StapleFits sc facts place q.txn)
+  pub pinned_low : IfSome q.pin (λ (pin : Version). IsPublished sc facts place (admin_of sc deed.item, pin))
+  pub exists : IsTxn sc q.txn
+  pub numbered : deed.query ≡ q.query
+  pub sound : IsSoundDeedAt sc at q.txn deed
+
+-- one that is to run: the version that its server knows is the pinned one, if one is
+pub record IsQueryHere (sc : Scenario) (facts : List Fact) (place : ℕ) (s : Server) (q : QueryRequest) (deed : Deed) : Type 0 where
+  pub asked : IsAskedHere sc facts place s.server q deed
+  pub pinned_is : IfSome q.pin (λ (pin : Version). version_known s (admin_of sc deed.item) ≡ pin)
+
+-- its proof is this, and true, or it has none
+pub record RunsTrue (sc : Scenario) (s : Server) (q : QueryRequest) (deed : Deed) (proof : Option Verdict) : Type 0 where
+  pub proof_is : verdict_at sc s q deed ≡ proof
+  pub holds : IfSome proof (λ (verdict : Verdict). is_none verdict.rule ≡ false)
+
+-- or false
+pub record RunsFalse (sc : Scenario) (s : Server) (q : QueryRequest) (deed : Deed) (verdict : Verdict) : Type 0 where
+  pub proof_is : verdict_at sc s q deed ≡ Some verdict
+  pub fails : is_none verdict.rule ≡ true
 
 -- the verdict on it is right
-proof_right : (sc : Scenario) (facts : List Fact) (place : ℕ) (s : Server) (q : QueryRequest) (deed : Deed) (verdict : Verdict) → IsValid sc → ServerFits sc facts place s → IsQueryHere sc facts place s q deed
+pub proof_right : (sc : Scenario) (facts : List Fact) (place : ℕ) (s : Server) (q : QueryRequest) (deed : Deed) (verdict : Verdict) → IsValid sc → ServerFits sc facts place s → IsQueryHere sc facts place s q deed
     → verdict_at sc s q deed ≡ Some verdict → Right sc facts place q.txn verdict
 proof_right sc facts place s q deed verdict valid h k e =
     let p : IsProvedAt sc s q deed verdict = proved_at sc s q deed verdict e in
     subst (Right sc facts place q.txn) p.verdict_is
-    (verdict_right sc facts place s q.txn p.txn p.staple [] deed valid h tt p.txn_is (subst (λ (staple : Option Staple). IfSome staple (StapleFits sc facts place q.txn)) p.staple_is k.stapled) k.sound)
+    (verdict_right sc facts place s q.txn p.txn p.staple [] deed valid h tt p.txn_is (subst (λ (staple : Option Staple). IfSome staple (StapleFits sc facts place q.txn)) p.staple_is k.asked.stapled) k.asked.sound)
 
 maybe_right : (sc : Scenario) (facts : List Fact) (place : ℕ) (s : Server) (q : QueryRequest) (deed : Deed) (proof : Option Verdict) → IsValid sc → ServerFits sc facts place s → IsQueryHere sc facts place s q deed
     → verdict_at sc s q deed ≡ proof → IfSome proof (Right sc facts place q.txn)
 maybe_right sc facts place s q deed None valid h k e = tt
 maybe_right sc facts place s q deed (Some verdict) valid h k e = proof_right sc facts place s q deed verdict valid h k e
 
-none_where : (pin : Option Version) → is_none pin ≡ true → pin ≡ None
-none_where None e = refl
-none_where (Some pin) e = absurd (cc)
-
 -- the administrator of the item of a query that a verdict is on
-asked_admin : (sc : Scenario) (txn : TxnId) (number : ℕ) (at : ServerId) (admin : AdminId) → IsQueryAt sc txn number at admin → admin_asked sc txn number ≡ Some admin
+pub asked_admin : (sc : Scenario) (txn : TxnId) (number : ℕ) (at : ServerId) (admin : AdminId) → IsQueryAt sc txn number at admin → admin_asked sc txn number ≡ Some admin
 asked_admin sc txn number at admin k =
     ap (option_and_then (admin_of_query sc)) k.asked_is ∙ (ap (option_map (λ (item : Item). item.admin)) k.kept.declared_is ∙ ap (λ (a : AdminId). Some a) k.admin_is)
 
@@ -170,32 +234,34 @@ asked_admin sc txn number at admin k =
 on_query_now : (sc : Scenario) (facts : List Fact) (place : ℕ) (s : Server) (gathered : List Verdict) (number : ℕ) (staple : Option Staple) (q : QueryRequest) (deed : Deed) (verdict : Verdict) → IsQueryHere sc facts place s q deed
     → IsAskedSo sc gathered number staple q → IsProvedAt sc s q deed verdict → IsOnQuery gathered number staple verdict
 on_query_now sc facts place s gathered number staple q deed verdict k h p =
-    let on : IsQueryAt sc q.txn q.query s.server (admin_of sc deed.item) = subst (λ (n : ℕ). IsQueryAt sc q.txn n s.server (admin_of sc deed.item)) k.numbered (verdict_query sc s.server q.txn deed k.sound) in
+    let on : IsQueryAt sc q.txn q.query s.server (admin_of sc deed.item) = subst (λ (n : ℕ). IsQueryAt sc q.txn n s.server (admin_of sc deed.item)) k.asked.numbered (verdict_query sc s.server q.txn deed k.asked.sound) in
     let admin : admin_asked sc q.txn q.query ≡ Some verdict.admin = asked_admin sc q.txn q.query s.server (admin_of sc deed.item) on ∙ ap (λ (v : Verdict). Some v.admin) p.verdict_is in
-    let pin : pin_of gathered verdict.admin ≡ None = ap (option_and_then (pin_of gathered)) (sym admin) ∙ (sym h.pin_is ∙ none_where q.pin k.unpinned) in
+    let pin : q.pin ≡ pin_of gathered verdict.admin = h.pin_is ∙ ap (option_and_then (pin_of gathered)) admin in
+    let used : verdict.version ≡ version_known s (admin_of sc deed.item) = ap (λ (v : Verdict). v.version) (sym p.verdict_is) in
     record {
-      query = ap (λ (v : Verdict). v.query) (sym p.verdict_is) ∙ (k.numbered ∙ h.query);
+      query = ap (λ (v : Verdict). v.query) (sym p.verdict_is) ∙ (k.asked.numbered ∙ h.query);
       placed = subst (λ (given : Option Staple). IfSome given (λ (one : Staple). verdict.place ≡ one.place)) (sym p.staple_is ∙ h.staple_is) (ap (λ (v : Verdict). v.place) (sym p.verdict_is));
-      pinned = subst (λ (found : Option Version). IfSome found (λ (one : Version). verdict.version ≡ one)) (sym pin) tt;
+      pinned = subst (λ (found : Option Version). IfSome found (λ (one : Version). verdict.version ≡ one)) pin
+          (maybe_stays (λ (one : Version). version_known s (admin_of sc deed.item) ≡ one) (λ (one : Version). verdict.version ≡ one) q.pin (λ one same. used ∙ same) k.pinned_is);
     }
 
 -- a query ran: it has a verdict where it was asked with a staple, and that is true
 ran_as_asked : (sc : Scenario) (facts : List Fact) (place : ℕ) (s : Server) (gathered : List Verdict) (number : ℕ) (staple : Option Staple) (q : QueryRequest) (deed : Deed) (proof : Option Verdict) → IsQueryHere sc facts place s q deed
-    → IsRunning sc s q deed proof → IsAskedSo sc gathered number staple q → RanNow gathered number staple proof
+    → RunsTrue sc s q deed proof → IsAskedSo sc gathered number staple q → RanNow gathered number staple proof
 ran_as_asked sc facts place s gathered number staple q deed None k r h =
-    let there = declared_there sc q.txn k.exists in
+    let there = declared_there sc q.txn k.asked.exists in
     record { proved = sym (ap is_some (sym h.staple_is ∙ unproved_at sc s q deed r.proof_is there.0 there.1)); on_query = tt; has_rule = tt }
 ran_as_asked sc facts place s gathered number staple q deed (Some verdict) k r h =
     let p : IsProvedAt sc s q deed verdict = proved_at sc s q deed verdict r.proof_is in
     record { proved = sym (ap is_some (sym h.staple_is ∙ p.staple_is)); on_query = on_query_now sc facts place s gathered number staple q deed verdict k h p; has_rule = some_if_not_none verdict.rule (ap not r.holds) }
 
-ran_now : (sc : Scenario) (facts : List Fact) (place : ℕ) (s : Server) (c : Coordinator) (awaited : Phase) (q : QueryRequest) (epoch : ℕ) (deed : Deed) (proof : Option Verdict) → IsQueryHere sc facts place s q deed → IsRunning sc s q deed proof
+ran_now : (sc : Scenario) (facts : List Fact) (place : ℕ) (s : Server) (c : Coordinator) (awaited : Phase) (q : QueryRequest) (epoch : ℕ) (deed : Deed) (proof : Option Verdict) → IsQueryHere sc facts place s q deed → RunsTrue sc s q deed proof
     → QueryNow sc c awaited q → DoneNow sc c awaited (reply_of q epoch (ran_as deed proof))
 ran_now sc facts place s c (phase.Querying number staple) q epoch deed proof k r h = record { query = h.query; answer_is = ran_as_asked sc facts place s c.gathered number staple q deed proof k r h }
 ran_now sc facts place s c _ q epoch deed proof k r h = tt
 
 -- its proof is false
-denied_now : (sc : Scenario) (facts : List Fact) (place : ℕ) (s : Server) (c : Coordinator) (awaited : Phase) (q : QueryRequest) (epoch : ℕ) (deed : Deed) (verdict : Verdict) → IsQueryHere sc facts place s q deed → IsDenied sc s q deed verdict
+pub denied_now : (sc : Scenario) (facts : List Fact) (place : ℕ) (s : Server) (c : Coordinator) (awaited : Phase) (q : QueryRequest) (epoch : ℕ) (deed : Deed) (verdict : Verdict) → IsQueryHere sc facts place s q deed → RunsFalse sc s q deed verdict
     → QueryNow sc c awaited q → DoneNow sc c awaited (reply_of q epoch (answer.Denied verdict))
 denied_now sc facts place s c (phase.Querying number staple) q epoch deed verdict k d h =
     let p : IsProvedAt sc s q deed verdict = proved_at sc s q deed verdict d.proof_is in
@@ -205,44 +271,78 @@ denied_now sc facts place s c (phase.Querying number staple) q epoch deed verdic
     }
 denied_now sc facts place s c _ q epoch deed verdict k d h = tt
 
+-- its server knows a newer version than the pinned one
+pub newer_now : (sc : Scenario) (facts : List Fact) (place : ℕ) (at : ServerId) (s : Server) (c : Coordinator) (awaited : Phase) (q : QueryRequest) (epoch : ℕ) (deed : Deed) (newer : Newer) → IsAskedHere sc facts place at q deed
+    → newer_known s (admin_of sc deed.item) q.pin ≡ Some newer → QueryNow sc c awaited q → DoneNow sc c awaited (reply_of q epoch (answer.Newer newer))
+newer_now sc facts place at s c (phase.Querying number staple) q epoch deed newer k e h =
+    let found = newer_is s (admin_of sc deed.item) q.pin newer e in
+    let on : IsQueryAt sc q.txn q.query at (admin_of sc deed.item) = subst (λ (n : ℕ). IsQueryAt sc q.txn n at (admin_of sc deed.item)) k.numbered (verdict_query sc at q.txn deed k.sound) in
+    let admin : admin_asked sc q.txn q.query ≡ Some newer.admin = asked_admin sc q.txn q.query at (admin_of sc deed.item) on ∙ ap (λ (a : AdminId). Some a) (sym found.admin_is) in
+    record {
+      query = h.query;
+      answer_is = record {
+        admin_is = subst (λ (n : ℕ). admin_asked sc q.txn n ≡ Some newer.admin) h.query admin;
+        used_is = sym (ap (option_and_then (pin_of c.gathered)) admin) ∙ (sym h.pin_is ∙ found.pin_is);
+      };
+    }
+newer_now sc facts place at s c _ q epoch deed newer k e h = tt
+
 -- that it is to die, or that its server restarted, says nothing of what was asked
-died_now : (sc : Scenario) (c : Coordinator) (awaited : Phase) (q : QueryRequest) (epoch : ℕ) (other : TxnId) → QueryNow sc c awaited q → DoneNow sc c awaited (reply_of q epoch (answer.Died other))
+pub died_now : (sc : Scenario) (c : Coordinator) (awaited : Phase) (q : QueryRequest) (epoch : ℕ) (other : TxnId) → QueryNow sc c awaited q → DoneNow sc c awaited (reply_of q epoch (answer.Died other))
 died_now sc c (phase.Querying number staple) q epoch other h = record { query = h.query; answer_is = tt }
 died_now sc c _ q epoch other h = tt
 
-restarted_now : (sc : Scenario) (c : Coordinator) (awaited : Phase) (q : QueryRequest) (epoch : ℕ) → QueryNow sc c awaited q → DoneNow sc c awaited (reply_of q epoch answer.Restarted)
+pub restarted_now : (sc : Scenario) (c : Coordinator) (awaited : Phase) (q : QueryRequest) (epoch : ℕ) → QueryNow sc c awaited q → DoneNow sc c awaited (reply_of q epoch answer.Restarted)
 restarted_now sc c (phase.Querying number staple) q epoch h = record { query = h.query; answer_is = tt }
 restarted_now sc c _ q epoch h = tt
 
 -- an answer of the turn of its query
-done_answers : (sc : Scenario) (q : QueryRequest) (done : DoneReply) → done.txn ≡ q.txn → done.turn ≡ q.turn → ((c : Coordinator) → QueryNow sc c c.phase q → DoneNow sc c c.phase done)
-    → Answers sc (body.Query q) (body.Done done) (record { txn = done.txn; turn = done.turn })
-done_answers sc q done same turn says =
+done_answers : (sc : Scenario) (P : TxnId → Coordinator → Type 0) (q : QueryRequest) (done : DoneReply) → done.txn ≡ q.txn → done.turn ≡ q.turn → ((c : Coordinator) → QueryNow sc c c.phase q → DoneNow sc c c.phase done)
+    → Answers sc P (body.Query q) (body.Done done) (record { txn = done.txn; turn = done.turn })
+done_answers sc P q done same turn says =
     record {
       asked = record { txn = q.txn; turn = q.turn };
       asked_is = refl;
       reply_is = refl;
       same_txn = sym same;
-      timely = λ c sent place t unsure. let was = (t unsure).past in record { past = omega (arith, was, turn); now = λ e. says c ((t unsure).now (sym turn ∙ e)) };
+      timely = λ c sent place here t unsure. let was = (t unsure).past in record { past = omega (arith, was, turn); now = λ e. says c ((t unsure).now (sym turn ∙ e)) };
+    }
+
+-- a query that is asked at a server where none is newer runs at one that knows the pinned version
+pub pinned_here : (sc : Scenario) (facts : List Fact) (place : ℕ) (s : Server) (q : QueryRequest) (deed : Deed) → IsValid sc → length s.store.known ≡ length sc.admins → IsAskedHere sc facts place s.server q deed
+    → newer_known s (admin_of sc deed.item) q.pin ≡ None → IsQueryHere sc facts place (pinned sc s q deed) q deed
+pinned_here sc facts place s q deed valid knows k none =
+    let exists = deed_admin sc s.server q.txn deed valid k.sound in
+    record { asked = record { stapled = k.stapled; pinned_low = k.pinned_low; exists = k.exists; numbered = k.numbered; sound = k.sound }; pinned_is = pinned_known s (admin_of sc deed.item) q.pin none (omega (arith, exists, knows)) }
+
+-- that it knows a newer one fits
+pub newer_fits : (sc : Scenario) (facts : List Fact) (place : ℕ) (s : Server) (q : QueryRequest) (deed : Deed) (newer : Newer) → IsValid sc → ServerFits sc facts place s → IsAskedHere sc facts place s.server q deed
+    → newer_known s (admin_of sc deed.item) q.pin ≡ Some newer → NewerFits sc facts place newer
+newer_fits sc facts place s q deed newer valid h k e =
+    let found = newer_is s (admin_of sc deed.item) q.pin newer e in
+    record {
+      above = found.above;
+      published = subst (λ (v : Version). v.0 ≤ newest sc newer.admin place facts) (sym found.found_is)
+          (subst (λ (a : AdminId). (version_known s (admin_of sc deed.item)).0 ≤ newest sc a place facts) (sym found.admin_is) (h.known (admin_of sc deed.item) (deed_admin sc s.server q.txn deed valid k.sound)));
     }
 
 -- an entry at which a query runs is kept
-run_kept : (sc : Scenario) (facts : List Fact) (place : ℕ) (T : Body → Type 0) (s : Server) (mail : Mail) (q : QueryRequest) (query : Query) (entry : Entry) (value : ℤ) → ServerTrusted sc facts place T s
+pub run_kept : (sc : Scenario) (facts : List Fact) (place : ℕ) (T : Body → Type 0) (s : Server) (mail : Mail) (q : QueryRequest) (query : Query) (entry : Entry) (value : ℤ) → ServerTrusted sc facts place T s
     → IsAsking sc s mail q query entry value → IsKept (IsTrusted sc facts place T) q.txn entry
 run_kept sc facts place T s mail q query entry value h k =
     ⊎_elim
-    (λ (first : IsFirstHere s mail.sent q entry). subst (IsKept (IsTrusted sc facts place T) q.txn) (sym first.entry_is) (record { answers = tt; waiting = tt; unpinned = tt; ballot = tt }))
+    (λ (first : IsFirstHere s mail.sent q entry). subst (IsKept (IsTrusted sc facts place T) q.txn) (sym first.entry_is) (record { answers = tt; waiting = tt; ballot = tt }))
     (λ (further : IsFurther s q entry). h.keeps q.txn.0 entry further.found) k.place
 
-runs_trusts : (sc : Scenario) (facts : List Fact) (place : ℕ) (T : Body → Type 0) (s : Server) (q : QueryRequest) (query : Query) (entry : Entry) (value : ℤ) (proof : Option Verdict) → IsValid sc → ServerTrusted sc facts place T s
-    → IsQueryHere sc facts place s q (deed_of q.query query value) → IsRunning sc s q (deed_of q.query query value) proof → IsClosed sc T → T (body.Query q) → IsKept (IsTrusted sc facts place T) q.txn entry
+pub runs_trusts : (sc : Scenario) (facts : List Fact) (place : ℕ) (P : TxnId → Coordinator → Type 0) (T : Body → Type 0) (s : Server) (q : QueryRequest) (query : Query) (entry : Entry) (value : ℤ) (proof : Option Verdict) → IsValid sc → ServerTrusted sc facts place T s
+    → IsQueryHere sc facts place s q (deed_of q.query query value) → RunsTrue sc s q (deed_of q.query query value) proof → IsClosed sc P T → T (body.Query q) → IsKept (IsTrusted sc facts place T) q.txn entry
     → RowTrusts sc facts place T (completes s q query entry (deed_of q.query query value) proof)
-runs_trusts sc facts place T s q query entry value proof valid h here running closed t old =
+runs_trusts sc facts place P T s q query entry value proof valid h here running closed t old =
     let deed = deed_of q.query query value in
     let answer = reply_of q entry.epoch (ran_as deed proof) in
     let right : IfSome proof (Right sc facts place q.txn) = maybe_right sc facts place s q deed proof valid h.fits here running.proof_is in
     let timely : T (body.Done answer) =
-    closed (body.Query q) (body.Done answer) (record { txn = q.txn; turn = q.turn }) (done_answers sc q answer refl refl (λ c. ran_now sc facts place s c c.phase q entry.epoch deed proof here running)) t in
+    closed (body.Query q) (body.Done answer) (record { txn = q.txn; turn = q.turn }) (done_answers sc P q answer refl refl (λ c. ran_now sc facts place s c c.phase q entry.epoch deed proof here running)) t in
     let effect = completes s q query entry deed proof in
     record {
       fits = knows_as sc facts place s effect.state (kept_known s.store q query value) h.fits;
@@ -250,7 +350,6 @@ runs_trusts sc facts place T s q query entry value proof valid h here running cl
           (record {
             answers = each_append (λ (d : DoneReply). IsTrusted sc facts place T (body.Done d)) entry.answers (answer ∷ []) old.answers (record { fits = λ sent. right; timely = timely }, tt);
             waiting = old.waiting;
-            unpinned = old.unpinned;
             ballot = old.ballot;
           });
       forces = tt;
@@ -259,7 +358,7 @@ runs_trusts sc facts place T s q query entry value proof valid h here running cl
     }
 
 -- the entry at which a query asks waits, or keeps an answer that ends the transaction
-entry_trusts : (sc : Scenario) (facts : List Fact) (place : ℕ) (T : Body → Type 0) (s : Server) (txn : TxnId) (entry : Entry) (letters : List Letter) → ServerTrusted sc facts place T s → IsKept (IsTrusted sc facts place T) txn entry
+pub entry_trusts : (sc : Scenario) (facts : List Fact) (place : ℕ) (T : Body → Type 0) (s : Server) (txn : TxnId) (entry : Entry) (letters : List Letter) → ServerTrusted sc facts place T s → IsKept (IsTrusted sc facts place T) txn entry
     → Each (λ (letter : Letter). BodyFits sc facts place place letter.body) letters → Each (λ (letter : Letter). IfSome (stamp_of letter.body) (λ (stamped : Stamp). T letter.body)) letters
     → RowTrusts sc facts place T (sends (with_entry s txn (Some entry)) letters)
 entry_trusts sc facts place T s txn entry letters h kept says timely =
@@ -272,16 +371,15 @@ entry_trusts sc facts place T s txn entry letters h kept says timely =
     }
 
 -- an answer that ends the transaction is kept and given
-ending_trusts : (sc : Scenario) (facts : List Fact) (place : ℕ) (T : Body → Type 0) (s : Server) (q : QueryRequest) (entry : Entry) (given : Answer) → ServerTrusted sc facts place T s → IsKept (IsTrusted sc facts place T) q.txn entry
-    → AnswerFits sc facts place q.txn given → IsClosed sc T → T (body.Query q) → ((c : Coordinator) → QueryNow sc c c.phase q → DoneNow sc c c.phase (reply_of q entry.epoch given)) → RowTrusts sc facts place T (answers_with s q entry given)
-ending_trusts sc facts place T s q entry given h old fits closed t now =
+pub ending_trusts : (sc : Scenario) (facts : List Fact) (place : ℕ) (P : TxnId → Coordinator → Type 0) (T : Body → Type 0) (s : Server) (q : QueryRequest) (entry : Entry) (given : Answer) → ServerTrusted sc facts place T s → IsKept (IsTrusted sc facts place T) q.txn entry
+    → AnswerFits sc facts place q.txn given → IsClosed sc P T → T (body.Query q) → ((c : Coordinator) → QueryNow sc c c.phase q → DoneNow sc c c.phase (reply_of q entry.epoch given)) → RowTrusts sc facts place T (answers_with s q entry given)
+ending_trusts sc facts place P T s q entry given h old fits closed t now =
     let answer = reply_of q entry.epoch given in
-    let timely : T (body.Done answer) = closed (body.Query q) (body.Done answer) (record { txn = q.txn; turn = q.turn }) (done_answers sc q answer refl refl now) t in
+    let timely : T (body.Done answer) = closed (body.Query q) (body.Done answer) (record { txn = q.txn; turn = q.turn }) (done_answers sc P q answer refl refl now) t in
     entry_trusts sc facts place T s q.txn _ _ h
     (record {
       answers = each_more (λ (d : DoneReply). IsTrusted sc facts place T (body.Done d)) entry.answers answer old.answers (record { fits = λ sent. fits; timely = timely });
       waiting = old.waiting;
-      unpinned = old.unpinned;
       ballot = old.ballot;
     }) (fits, tt) (timely, tt)
 
@@ -296,9 +394,23 @@ after_trusts sc facts place T effect further h now =
       timely = each_append (λ (letter : Letter). IfSome (stamp_of letter.body) (λ (stamped : Stamp). T letter.body)) effect.reaction.letters _ h.timely now.timely;
     }
 
+-- a query whose request fits
+pub asked_here : (sc : Scenario) (facts : List Fact) (place : ℕ) (at : ServerId) (q : QueryRequest) (deed : Deed) → QueryFits sc facts place q → IsTxn sc q.txn → deed.query ≡ q.query → IsSoundDeedAt sc at q.txn deed → IsAskedHere sc facts place at q deed
+asked_here sc facts place at q deed fits exists numbered sound =
+    let on : IsQueryAt sc q.txn q.query at (admin_of sc deed.item) = subst (λ (n : ℕ). IsQueryAt sc q.txn n at (admin_of sc deed.item)) numbered (verdict_query sc at q.txn deed sound) in
+    let admin = asked_admin sc q.txn q.query at (admin_of sc deed.item) on in
+    record {
+      stapled = fits.stapled;
+      pinned_low = maybe_stays (λ (pin : Version). IfSome (admin_asked sc q.txn q.query) (λ (a : AdminId). IsPublished sc facts place (a, pin))) (λ (pin : Version). IsPublished sc facts place (admin_of sc deed.item, pin)) q.pin
+          (λ pin low. subst (λ (found : Option AdminId). IfSome found (λ (a : AdminId). IsPublished sc facts place (a, pin))) admin low) fits.pinned;
+      exists = exists;
+      numbered = numbered;
+      sound = sound;
+    }
+
 -- a query that waited, as it has its lock
 record IsWaitOver (sc : Scenario) (facts : List Fact) (place : ℕ) (T : Body → Type 0) (s : Server) (q : QueryRequest) (query : Query) (entry : Entry) (value : ℤ) : Type 0 where
-  here : IsQueryHere sc facts place s q (deed_of q.query query value)
+  here : IsAskedHere sc facts place s.server q (deed_of q.query query value)
   timely : T (body.Query q)
   kept : IsKept (IsTrusted sc facts place T) q.txn (unwaiting entry)
 
@@ -308,290 +420,60 @@ wait_over sc facts place T at s grant q query entry value k keeps =
     let old : IsKept (IsTrusted sc facts place T) q.txn entry = keeps q.txn.0 entry k.found in
     let asked : IsTrusted sc facts place T (body.Query q) = subst (λ (w : Option QueryRequest). IfSome w (λ (r : QueryRequest). IsTrusted sc facts place T (body.Query r))) k.waiting_is old.waiting in
     record {
-      here = record {
-        unpinned = subst (λ (w : Option QueryRequest). IfSome w (λ (r : QueryRequest). is_none r.pin ≡ true)) k.waiting_is old.unpinned;
-        stapled = (asked.fits 0).stapled;
-        exists = k.exists;
-        numbered = refl;
-        sound = record {
-          sound = record { asked = query; asked_is = k.asked_is; item_is = refl; action_is = refl };
-          kept = record { declared = k.item; declared_is = k.item_is; server_is = k.here ∙ sym k.server_is };
-        };
-      };
+      here = asked_here sc facts place s.server q (deed_of q.query query value) (asked.fits 0) k.exists refl
+          (record {
+            sound = record { asked = query; asked_is = k.asked_is; item_is = refl; action_is = refl };
+            kept = record { declared = k.item; declared_is = k.item_is; server_is = k.here ∙ sym k.server_is };
+          });
       timely = asked.timely;
-      kept = record { answers = old.answers; waiting = tt; unpinned = tt; ballot = old.ballot };
+      kept = record { answers = old.answers; waiting = tt; ballot = old.ballot };
     }
 
--- what waited runs, after what was done before
-resumes_trusts : (sc : Scenario) (facts : List Fact) (place : ℕ) (T : Body → Type 0) (s : Server) (effect : Effect Server) (grant : Grant) (q : QueryRequest) (query : Query) (entry : Entry) (value : ℤ) (proof : Option Verdict) → IsValid sc → IsClosed sc T
-    → IsResumed sc s.server effect.state grant q query entry value → IsRunning sc effect.state q (deed_of q.query query value) proof → RowTrusts sc facts place T effect
-    → RowTrusts sc facts place T (followed_by effect (resuming effect.state q query entry value proof))
-resumes_trusts sc facts place T s effect grant q query entry value proof valid closed k running h =
-    let w = wait_over sc facts place T s.server effect.state grant q query entry value k h.keeps in
-    after_trusts sc facts place T effect (resuming effect.state q query entry value proof) h
-    (runs_trusts sc facts place T effect.state q query (unwaiting entry) value proof valid (record { fits = h.fits; keeps = h.keeps }) w.here running closed w.timely w.kept)
-
--- or its proof is false
-resumes_denied_trusts : (sc : Scenario) (facts : List Fact) (place : ℕ) (T : Body → Type 0) (s : Server) (effect : Effect Server) (grant : Grant) (q : QueryRequest) (query : Query) (entry : Entry) (value : ℤ) (verdict : Verdict) → IsValid sc
-    → IsClosed sc T → IsResumed sc s.server effect.state grant q query entry value → IsDenied sc effect.state q (deed_of q.query query value) verdict → RowTrusts sc facts place T effect
-    → RowTrusts sc facts place T (followed_by effect (denying effect.state q entry verdict))
-resumes_denied_trusts sc facts place T s effect grant q query entry value verdict valid closed k denied h =
+-- what waited runs at a server that knows the pinned version, after what was done before
+pub resumes_trusts : (sc : Scenario) (facts : List Fact) (place : ℕ) (P : TxnId → Coordinator → Type 0) (T : Body → Type 0) (s : Server) (effect : Effect Server) (grant : Grant) (q : QueryRequest) (query : Query) (entry : Entry) (value : ℤ) (proof : Option Verdict)
+    → IsValid sc → IsClosed sc P T → length effect.state.store.known ≡ length sc.admins → IsResumed sc s.server effect.state grant q query entry value → IsRunning sc effect.state q (deed_of q.query query value) proof → RowTrusts sc facts place T effect
+    → RowTrusts sc facts place T (followed_by effect (resuming (pinned sc effect.state q (deed_of q.query query value)) q query entry value proof))
+resumes_trusts sc facts place P T s effect grant q query entry value proof valid closed knows k running h =
     let w = wait_over sc facts place T s.server effect.state grant q query entry value k h.keeps in
     let deed = deed_of q.query query value in
-    after_trusts sc facts place T effect (denying effect.state q entry verdict) h
-    (ending_trusts sc facts place T effect.state q (unwaiting entry) (answer.Denied verdict) (record { fits = h.fits; keeps = h.keeps }) w.kept
-    (proof_right sc facts place effect.state q deed verdict valid h.fits w.here denied.proof_is) closed w.timely (λ c. denied_now sc facts place effect.state c c.phase q (unwaiting entry).epoch deed verdict w.here denied))
+    let now = pinned sc effect.state q deed in
+    after_trusts sc facts place T effect (resuming now q query entry value proof) h
+    (runs_trusts sc facts place P T now q query (unwaiting entry) value proof valid (record { fits = pinned_fits sc facts place effect.state (admin_of sc deed.item) q.pin h.fits w.here.pinned_low; keeps = h.keeps })
+    (pinned_here sc facts place effect.state q deed valid knows w.here running.none_newer) (record { proof_is = running.proof_is; holds = running.holds }) closed w.timely w.kept)
+
+-- or its proof is false
+pub resumes_denied_trusts : (sc : Scenario) (facts : List Fact) (place : ℕ) (P : TxnId → Coordinator → Type 0) (T : Body → Type 0) (s : Server) (effect : Effect Server) (grant : Grant) (q : QueryRequest) (query : Query) (entry : Entry) (value : ℤ) (verdict : Verdict)
+    → IsValid sc → IsClosed sc P T → length effect.state.store.known ≡ length sc.admins → IsResumed sc s.server effect.state grant q query entry value → IsDenied sc effect.state q (deed_of q.query query value) verdict → RowTrusts sc facts place T effect
+    → RowTrusts sc facts place T (followed_by effect (refusing (pinned sc effect.state q (deed_of q.query query value)) q entry (answer.Denied verdict)))
+resumes_denied_trusts sc facts place P T s effect grant q query entry value verdict valid closed knows k denied h =
+    let w = wait_over sc facts place T s.server effect.state grant q query entry value k h.keeps in
+    let deed = deed_of q.query query value in
+    let now = pinned sc effect.state q deed in
+    let fits = pinned_fits sc facts place effect.state (admin_of sc deed.item) q.pin h.fits w.here.pinned_low in
+    let here = pinned_here sc facts place effect.state q deed valid knows w.here denied.none_newer in
+    after_trusts sc facts place T effect (refusing now q entry (answer.Denied verdict)) h
+    (ending_trusts sc facts place P T now q (unwaiting entry) (answer.Denied verdict) (record { fits = fits; keeps = h.keeps }) w.kept
+    (proof_right sc facts place now q deed verdict valid fits here denied.proof_is) closed w.timely
+    (λ c. denied_now sc facts place now c c.phase q (unwaiting entry).epoch deed verdict here (record { proof_is = denied.proof_is; fails = denied.fails })))
+
+-- or its server knows a newer version
+pub resumes_outdated_trusts : (sc : Scenario) (facts : List Fact) (place : ℕ) (P : TxnId → Coordinator → Type 0) (T : Body → Type 0) (s : Server) (effect : Effect Server) (grant : Grant) (q : QueryRequest) (query : Query) (entry : Entry) (value : ℤ) (newer : Newer)
+    → IsValid sc → IsClosed sc P T → IsResumed sc s.server effect.state grant q query entry value → newer_known effect.state (admin_of sc (item_of query)) q.pin ≡ Some newer → RowTrusts sc facts place T effect
+    → RowTrusts sc facts place T (followed_by effect (refusing effect.state q entry (answer.Newer newer)))
+resumes_outdated_trusts sc facts place P T s effect grant q query entry value newer valid closed k e h =
+    let w = wait_over sc facts place T s.server effect.state grant q query entry value k h.keeps in
+    let deed = deed_of q.query query value in
+    after_trusts sc facts place T effect (refusing effect.state q entry (answer.Newer newer)) h
+    (ending_trusts sc facts place P T effect.state q (unwaiting entry) (answer.Newer newer) (record { fits = h.fits; keeps = h.keeps }) w.kept (newer_fits sc facts place effect.state q deed newer valid h.fits w.here e) closed w.timely
+    (λ c. newer_now sc facts place effect.state.server effect.state c c.phase q (unwaiting entry).epoch deed newer w.here e))
 
 -- an answer that is given again fits as it did
-answers_trusts : (sc : Scenario) (facts : List Fact) (place : ℕ) (T : Body → Type 0) (s : Server) (q : QueryRequest) (given : DoneReply) → ServerTrusted sc facts place T s
+pub answers_trusts : (sc : Scenario) (facts : List Fact) (place : ℕ) (T : Body → Type 0) (s : Server) (q : QueryRequest) (given : DoneReply) → ServerTrusted sc facts place T s
     → IsTrusted sc facts place T (body.Done given) → RowTrusts sc facts place T (answers s q.txn given)
 answers_trusts sc facts place T s q given h k = record { fits = h.fits; keeps = h.keeps; forces = tt; says = (k.fits place, tt); timely = (k.timely, tt) }
 
-restarted_trusted : (sc : Scenario) (facts : List Fact) (place : ℕ) (T : Body → Type 0) (s : Server) (q : QueryRequest) → IsClosed sc T → T (body.Query q)
+pub restarted_trusted : (sc : Scenario) (facts : List Fact) (place : ℕ) (P : TxnId → Coordinator → Type 0) (T : Body → Type 0) (s : Server) (q : QueryRequest) → IsClosed sc P T → T (body.Query q)
     → IsTrusted sc facts place T (body.Done (reply_of q s.epoch answer.Restarted))
-restarted_trusted sc facts place T s q closed t =
+restarted_trusted sc facts place P T s q closed t =
     let given = reply_of q s.epoch answer.Restarted in
-    record { fits = λ sent. tt; timely = closed (body.Query q) (body.Done given) (record { txn = q.txn; turn = q.turn }) (done_answers sc q given refl refl (λ c. restarted_now sc c c.phase q s.epoch)) t }
-
--- ---- Prepare
-
-rights_of : (sc : Scenario) (facts : List Fact) (place : ℕ) (s : Server) (txn : TxnId) (presenting : Transaction) (staple : Staple) (want : List (AdminId × Version)) (deeds : List Deed) → IsValid sc → ServerFits sc facts place s
-    → Each (IsPublished sc facts place) want → slice_get sc.txns txn.0 ≡ Some presenting → StapleFits sc facts place txn staple → Each (IsSoundDeedAt sc s.server txn) deeds
-    → Each (Right sc facts place txn) (verdicts_on sc s presenting staple want deeds)
-rights_of sc facts place s txn presenting staple want deeds valid h published there fits d =
-    each_map (IsSoundDeedAt sc s.server txn) (Right sc facts place txn) (verdict_on sc s presenting staple want)
-    (λ deed k. verdict_right sc facts place s txn presenting staple want deed valid h published there fits k) deeds d
-
--- what is known once the wanted versions are learnt is none above the newest
-learnt_fits : (sc : Scenario) (facts : List Fact) (place : ℕ) (s : Server) (want : List (AdminId × Version)) → ServerFits sc facts place s → Each (IsPublished sc facts place) want → ServerFits sc facts place (with_wants s want)
-learnt_fits sc facts place s want h w =
-    record {
-      known = λ admin within.
-          learnt_most s.store want admin (newest sc admin place facts) (h.known admin within)
-          (each_as (IsPublished sc facts place) (λ (wanted : AdminId × Version). wanted.0.0 ≡ admin.0 → wanted.1.0 ≤ newest sc admin place facts)
-          (λ wanted below same. subst (λ (a : AdminId). wanted.1.0 ≤ newest sc a place facts) (ap admin_number same) below) want w);
-    }
-
-placed_there : (sc : Scenario) (s : Server) (txn : Transaction) (staple : Staple) (want : List (AdminId × Version)) (other : ℕ) (deeds : List Deed) → staple.place ≡ other
-    → Each (λ (verdict : Verdict). verdict.place ≡ other) (verdicts_on sc s txn staple want deeds)
-placed_there sc s txn staple want other [] e = tt
-placed_there sc s txn staple want other (deed ∷ deeds) e = (e, placed_there sc s txn staple want other deeds e)
-
--- a verdict at a version that is wanted
-used_aimed : (s : Server) (want aim : List (AdminId × Version)) (verdict : Verdict) (wanted : Option ℕ) → wanted_of want verdict.admin ≡ wanted → is_some wanted ≡ true → verdict.version ≡ version_used s want verdict.admin
-    → Each (λ (one : AdminId × Version). is_within aim one ≡ true) want → is_aimed aim verdict ≡ true
-used_aimed s want aim verdict None e some used within = absurd (cc)
-used_aimed s want aim verdict (Some version) e some used within =
-    wanted_aimed aim want verdict version within e (ap (λ (v : Version). v.0) used ∙ ap (λ (w : Option ℕ). (version_or w (version_known s verdict.admin)).0) e)
-
--- where all administrators are named all verdicts are at wanted versions
-verdicts_aimed : (sc : Scenario) (facts : List Fact) (place : ℕ) (s : Server) (txn : TxnId) (presenting : Transaction) (staple : Staple) (want aim : List (AdminId × Version)) (deeds : List Deed)
-    → slice_get sc.txns txn.0 ≡ Some presenting → Names (site_of sc s.server.0 presenting) want → Each (λ (one : AdminId × Version). is_within aim one ≡ true) want
-    → Each (Right sc facts place txn) (verdicts_on sc s presenting staple want deeds) → list_all (is_aimed aim) (verdicts_on sc s presenting staple want deeds) ≡ true
-verdicts_aimed sc facts place s txn presenting staple want aim [] there names within rights = refl
-verdicts_aimed sc facts place s txn presenting staple want aim (deed ∷ deeds) there names within rights =
-    let verdict = verdict_on sc s presenting staple want deed in
-    and_from (is_aimed aim verdict) (list_all (is_aimed aim) (verdicts_on sc s presenting staple want deeds))
-    (used_aimed s want aim verdict (wanted_of want verdict.admin) refl (names verdict.query verdict.admin (rights.0 presenting there).own) refl within)
-    (verdicts_aimed sc facts place s txn presenting staple want aim deeds there names within rights.1)
-
--- what is wanted, if anything is, names all administrators of the transaction's queries at the server
-abbrev pub IsNamed : Scenario → ServerId → PrepareRequest → Type 0
-IsNamed sc at p = (declared : Transaction) → slice_get sc.txns p.txn.0 ≡ Some declared → (is_empty p.want ≡ true) ⊎ Names (site_of sc at.0 declared) p.want
-
-abbrev pub NamedMail : Scenario → ServerId → Body → Type 0
-NamedMail sc at (body.Prepare p) = IsNamed sc at p
-NamedMail sc at _ = Unit {0}
-
--- so a mail to the server says
-pub named_mail : (sc : Scenario) (P : TxnId → ℕ → Pair) (from : Actor) (at : ServerId) (said : Body) → BodyPairs sc P from (actor.Server at) said → NamedMail sc at said
-named_mail sc P from at (body.Prepare p) h = λ declared e. (h declared e).names
-named_mail sc P from at _ h = tt
-
--- an entry of the epoch that a request to prepare names has deeds
-abbrev pub HasRun : Server → PrepareRequest → Type 0
-HasRun s p = (entry : Entry) → entry_at s p.txn ≡ Some entry → entry.epoch ≡ p.epoch → entry.deeds ≡ [] → ⊥
-
-abbrev pub RanMail : Server → Body → Type 0
-RanMail s (body.Prepare p) = HasRun s p
-RanMail s _ = Unit {0}
-
--- a vote has the versions of a round whose request it answers
-aimed_vote : (sc : Scenario) (facts : List Fact) (place : ℕ) (s : Server) (p : PrepareRequest) (round : Round) (txn : Transaction) (staple : Staple) (deeds : List Deed) → slice_get sc.txns p.txn.0 ≡ Some txn
-    → Each (Right sc facts place p.txn) (verdicts_on sc s txn staple p.want deeds) → (is_empty p.want ≡ true) ⊎ Names (site_of sc s.server.0 txn) p.want → WantNow round p.want
-    → AimedVote round (vote.Yes (verdicts_on sc s txn staple p.want deeds))
-aimed_vote sc facts place s p round txn staple deeds there rights names (inl first) = inl first
-aimed_vote sc facts place s p round txn staple deeds there rights (inl none) (inr wants) = let some = wants.0 in absurd (cc)
-aimed_vote sc facts place s p round txn staple deeds there rights (inr names) (inr wants) = inr (verdicts_aimed sc facts place s p.txn txn staple p.want round.aim deeds there names wants.1 rights)
-
--- where there are deeds there are verdicts
-proves_some : (sc : Scenario) (s : Server) (txn : Transaction) (staple : Staple) (want : List (AdminId × Version)) (deeds : List Deed) → (deeds ≡ [] → ⊥) → ProvesSome (vote.Yes (verdicts_on sc s txn staple want deeds))
-proves_some sc s txn staple want [] some none = some refl
-proves_some sc s txn staple want (deed ∷ deeds) some none = cc
-
-vote_now : (sc : Scenario) (facts : List Fact) (place : ℕ) (s : Server) (awaited : Phase) (p : PrepareRequest) (txn : Transaction) (staple : Staple) (deeds : List Deed) → p.staple ≡ Some staple → slice_get sc.txns p.txn.0 ≡ Some txn
-    → Each (Right sc facts place p.txn) (verdicts_on sc s txn staple p.want deeds) → IsNamed sc s.server p → (deeds ≡ [] → ⊥) → PrepareNow awaited p → VoteNow awaited (vote.Yes (verdicts_on sc s txn staple p.want deeds))
-vote_now sc facts place s (phase.Checking over round st) p txn staple deeds e there rights names some h = (
-  placed_there sc s txn staple p.want st.place deeds (ap (λ (x : Staple). x.place) (same_Some staple st (sym e ∙ h.0))),
-  aimed_vote sc facts place s p round txn staple deeds there rights (names txn there) h.1,
-  proves_some sc s txn staple p.want deeds some,
-)
-vote_now sc facts place s (phase.Voting awaited) p txn staple deeds e there rights names some h = absurd (cc)
-vote_now sc facts place s _ p txn staple deeds e there rights names some h = tt
-
--- a vote of the turn of its request, at the place of its staple
-vote_answers : (sc : Scenario) (facts : List Fact) (place : ℕ) (s : Server) (p : PrepareRequest) (txn : Transaction) (staple : Staple) (deeds : List Deed) → p.staple ≡ Some staple → slice_get sc.txns p.txn.0 ≡ Some txn
-    → Each (Right sc facts place p.txn) (verdicts_on sc s txn staple p.want deeds) → IsNamed sc s.server p → (deeds ≡ [] → ⊥)
-    → Answers sc (body.Prepare p) (body.Vote (record { txn = p.txn; turn = p.turn; vote = vote.Yes (verdicts_on sc s txn staple p.want deeds) })) (record { txn = p.txn; turn = p.turn })
-vote_answers sc facts place s p txn staple deeds e there rights names some =
-    record {
-      asked = record { txn = p.txn; turn = p.turn };
-      asked_is = refl;
-      reply_is = refl;
-      same_txn = refl;
-      timely = λ c sent again t unsure. record { past = (t unsure).past; now = λ same. vote_now sc facts place s c.phase p txn staple deeds e there rights names some ((t unsure).now same) };
-    }
-
-votes_trusts : (sc : Scenario) (facts : List Fact) (place : ℕ) (T : Body → Type 0) (s : Server) (p : PrepareRequest) (txn : Transaction) (staple : Staple) (entry : Entry) → IsValid sc → IsSoundServer sc s
-    → ServerTrusted sc facts place T s → IsClosed sc T → T (body.Prepare p) → p.staple ≡ Some staple → slice_get sc.txns p.txn.0 ≡ Some txn → StapleFits sc facts place p.txn staple
-    → Each (IsPublished sc facts place) p.want → entry_at s p.txn ≡ Some entry → IsNamed sc s.server p → (entry.deeds ≡ [] → ⊥) → RowTrusts sc facts place T (votes_on sc (with_wants s p.want) p entry staple txn)
-votes_trusts sc facts place T s p txn staple entry valid sound h closed t e there fits published found names some =
-    let now = with_wants s p.want in
-    let after : ServerFits sc facts place now = learnt_fits sc facts place s p.want h.fits published in
-    let k : IsSoundEntry sc s.server p.txn entry = sound.entries p.txn.0 entry found in
-    let old : IsKept (IsTrusted sc facts place T) p.txn entry = h.keeps p.txn.0 entry found in
-    let verdicts = verdicts_on sc now txn staple p.want entry.deeds in
-    let fit : Each (Right sc facts place p.txn) verdicts =
-    rights_of sc facts place now p.txn txn staple p.want entry.deeds valid after published there fits k.deeds in
-    let said = body.Vote (record { txn = p.txn; turn = p.turn; vote = vote.Yes verdicts }) in
-    let timely : T said = closed (body.Prepare p) said (record { txn = p.txn; turn = p.turn }) (vote_answers sc facts place now p txn staple entry.deeds e there fit names some) t in
-    let trusted : IsTrusted sc facts place T said = record { fits = λ sent. fit; timely = timely } in
-    record {
-      fits = record { known = after.known };
-      keeps = placed_set (λ (n : ℕ) (other : Entry). IsKept (IsTrusted sc facts place T) (record { 0 = n }) other) s.entries p.txn.0 _ h.keeps
-          (record { answers = old.answers; waiting = old.waiting; unpinned = old.unpinned; ballot = trusted });
-      forces = trusted;
-      says = (fit, tt);
-      timely = (timely, tt);
-    }
-
--- a vote that is given again fits as it did
-votes_again_trusts : (sc : Scenario) (facts : List Fact) (place : ℕ) (T : Body → Type 0) (s : Server) (p : PrepareRequest) (entry : Entry) (cast : Ballot) → ServerTrusted sc facts place T s → entry_at s p.txn ≡ Some entry
-    → entry.ballot ≡ Some cast → RowTrusts sc facts place T (sends s (yes_letter s p.txn cast ∷ []))
-votes_again_trusts sc facts place T s p entry cast h found ballot_is =
-    let old : IsTrusted sc facts place T (vote_cast p.txn cast) =
-    subst (λ (ballot : Option Ballot). IfSome ballot (λ (b : Ballot). IsTrusted sc facts place T (vote_cast p.txn b))) ballot_is (h.keeps p.txn.0 entry found).ballot in
-    record { fits = h.fits; keeps = h.keeps; forces = tt; says = (old.fits place, tt); timely = (old.timely, tt) }
-
--- ---- the end of a transaction
-
--- a letter that says nothing of authorisation fits, and is timely if it answers a request
-record LetterTrusts (sc : Scenario) (facts : List Fact) (place : ℕ) (T : Body → Type 0) (letter : Letter) : Type 0 where
-  says : BodyFits sc facts place place letter.body
-  timely : IfSome (stamp_of letter.body) (λ (stamped : Stamp). T letter.body)
-
-no_now : (awaited : Phase) (why : No) → VoteNow awaited (vote.No why)
-no_now (phase.Checking over round staple) why = (tt, tt, tt)
-no_now phase.Idle why = tt
-no_now (phase.Stapling number) why = tt
-no_now (phase.Querying number staple) why = tt
-no_now (phase.Probing number) why = tt
-no_now (phase.Asking over round) why = tt
-no_now (phase.Reading over round) why = tt
-no_now (phase.Voting awaited) why = tt
-no_now phase.VoteProbing why = tt
-no_now (phase.Ending ended awaited) why = tt
-
--- a vote NO answers the request to prepare
-no_letter_trusts : (sc : Scenario) (facts : List Fact) (place : ℕ) (T : Body → Type 0) (s : Server) (p : PrepareRequest) (why : No) → IsClosed sc T → T (body.Prepare p) → LetterTrusts sc facts place T (no_letter s p why)
-no_letter_trusts sc facts place T s p why closed t =
-    record {
-      says = tt;
-      timely = closed (body.Prepare p) (no_letter s p why).body (record { txn = p.txn; turn = p.turn })
-          (record {
-            asked = record { txn = p.txn; turn = p.turn };
-            asked_is = refl;
-            reply_is = refl;
-            same_txn = refl;
-            timely = λ c sent place t unsure. record { past = (t unsure).past; now = λ e. no_now c.phase why };
-          }) t;
-    }
-
-ends_trusts : (sc : Scenario) (facts : List Fact) (place : ℕ) (T : Body → Type 0) (s : Server) (d : Settled) (letter : Letter) → ServerTrusted sc facts place T s → LetterTrusts sc facts place T letter → RowTrusts sc facts place T (closes s d letter)
-ends_trusts sc facts place T s d letter h l =
-    record {
-      fits = knows_as sc facts place s (closes s d letter).state (ended_known s.store d.txn d.outcome) h.fits;
-      keeps = placed_emptied (λ (n : ℕ) (entry : Entry). IsKept (IsTrusted sc facts place T) (record { 0 = n }) entry) s.entries d.txn.0 h.keeps;
-      forces = tt;
-      says = (l.says, tt);
-      timely = (l.timely, tt);
-    }
-
--- ---- Push
-
-learns_trusts : (sc : Scenario) (facts : List Fact) (place : ℕ) (T : Body → Type 0) (s : Server) (push : PushNotice) → ServerTrusted sc facts place T s → IsPublished sc facts place (push.admin, push.version)
-    → RowTrusts sc facts place T (learns s push)
-learns_trusts sc facts place T s push h new =
-    record {
-      fits = record {
-        known = λ admin within.
-            known_most s.store push.admin admin push.version (newest sc admin place facts) (h.fits.known admin within)
-            (λ same. subst (λ (a : AdminId). push.version.0 ≤ newest sc a place facts) (ap admin_number same) new);
-      };
-      keeps = h.keeps;
-      forces = tt;
-      says = tt;
-      timely = tt;
-    }
-
--- every row of a server on receipt of a mail
-pub server_row_trusts : (sc : Scenario) (facts : List Fact) (place : ℕ) (T : Body → Type 0) (s : Server) (mail : Mail) → IsValid sc → AreRightWaits sc s → IsSoundServer sc s → IsSoundBody sc (actor.Server s.server) mail.letter.body → ServerTrusted sc facts place T s
-    → BodyFits sc facts place mail.sent mail.letter.body → NamedMail sc s.server mail.letter.body → RanMail s mail.letter.body → IsClosed sc T → T mail.letter.body → RowTrusts sc facts place T (server_row sc s mail)
-server_row_trusts sc facts place T s mail valid waits sound m h f named ran closed t =
-    server_by sc s mail (RowTrusts sc facts place T) waits
-    (record {
-      relocked = λ effect locks k. record { fits = record { known = k.fits.known }; keeps = k.keeps; forces = k.forces; says = k.says; timely = k.timely };
-      ignored = ignores_trusts_in_server sc facts place T s h;
-      ran = λ q query entry value proof k running.
-          runs_trusts sc facts place T s q query entry value proof valid h (asked_here q query entry value k) running closed (subst T k.said_is t) (run_kept sc facts place T s mail q query entry value h k);
-      denied = λ q query entry value verdict k false_one.
-          let deed = deed_of q.query query value in
-          ending_trusts sc facts place T s q entry (answer.Denied verdict) h (run_kept sc facts place T s mail q query entry value h k)
-          (proof_right sc facts place s q deed verdict valid h.fits (asked_here q query entry value k) false_one.proof_is) closed (subst T k.said_is t)
-          (λ c. denied_now sc facts place s c c.phase q entry.epoch deed verdict (asked_here q query entry value k) false_one);
-      waited = λ q query entry value k.
-          let old = run_kept sc facts place T s mail q query entry value h k in
-          let asked : BodyFits sc facts place mail.sent (body.Query q) = subst (BodyFits sc facts place mail.sent) k.said_is f in
-          entry_trusts sc facts place T s q.txn (record entry { waiting = Some q }) [] h
-          (record { answers = old.answers; waiting = record { fits = λ sent. asked; timely = subst T k.said_is t }; unpinned = k.unpinned; ballot = old.ballot }) tt tt;
-      died = λ q query entry value other k dying.
-          ending_trusts sc facts place T s q entry (answer.Died other) h (run_kept sc facts place T s mail q query entry value h k) tt closed (subst T k.said_is t) (λ c. died_now sc c c.phase q entry.epoch other);
-      restarted = λ q k. answers_trusts sc facts place T s q (reply_of q s.epoch answer.Restarted) h (restarted_trusted sc facts place T s q closed (subst T k.said_is t));
-      answered = λ q entry given k.
-          answers_trusts sc facts place T s q given h
-          (each_found (λ (d : DoneReply). IsTrusted sc facts place T (body.Done d)) (λ (d : DoneReply). d.query == q.query) entry.answers given (h.keeps q.txn.0 entry k.found).answers k.given_is);
-      voted = λ p entry staple txn k.
-          let asked : BodyFits sc facts place mail.sent (body.Prepare p) = subst (BodyFits sc facts place mail.sent) k.said_is f in
-          votes_trusts sc facts place T s p txn staple entry valid sound h closed (subst T k.said_is t) k.stapled k.declared
-          (subst (λ (x : Option Staple). IfSome x (StapleFits sc facts place p.txn)) k.stapled asked.0) asked.1 k.found
-          (subst (NamedMail sc s.server) k.said_is named) (subst (RanMail s) k.said_is ran entry k.found (eqb-true entry.epoch p.epoch k.same_epoch));
-      voted_again = λ p entry cast k. votes_again_trusts sc facts place T s p entry cast h k.found k.ballot_is;
-      refused = λ p entry number value k.
-          ends_trusts sc facts place T s (refused_as p _) (no_letter s p _) h (no_letter_trusts sc facts place T s p _ closed (subst T k.said_is t));
-      lost = λ p k. ends_trusts sc facts place T s (refused_as p _) (no_letter s p _) h (no_letter_trusts sc facts place T s p _ closed (subst T k.said_is t));
-      refused_again = λ p settled why k.
-          let l = no_letter_trusts sc facts place T s p why closed (subst T k.said_is t) in
-          record { fits = h.fits; keeps = h.keeps; forces = tt; says = (l.says, tt); timely = (l.timely, tt) };
-      settled = λ d k. ends_trusts sc facts place T s (settled_as d) (ack_letter s d.txn) h (record { says = tt; timely = tt });
-      acknowledged = λ d settled k. record { fits = h.fits; keeps = h.keeps; forces = tt; says = (tt, tt); timely = (tt, tt) };
-      pushed = λ push k. learns_trusts sc facts place T s push h (subst (BodyFits sc facts place mail.sent) k.said_is f);
-      resumed = λ effect grant q query entry value proof k running now. resumes_trusts sc facts place T s effect grant q query entry value proof valid closed k running now;
-      resumed_denied = λ effect grant q query entry value verdict k false_one now. resumes_denied_trusts sc facts place T s effect grant q query entry value verdict valid closed k false_one now;
-    })
-  where
-    -- a query that asks for its lock
-    asked_here : (q : QueryRequest) (query : Query) (entry : Entry) (value : ℤ) → IsAsking sc s mail q query entry value → IsQueryHere sc facts place s q (deed_of q.query query value)
-    asked_here q query entry value k =
-        let asked : BodyFits sc facts place mail.sent (body.Query q) = subst (BodyFits sc facts place mail.sent) k.said_is f in
-        let is_sound : IsSoundBody sc (actor.Server s.server) (body.Query q) = subst (IsSoundBody sc (actor.Server s.server)) k.said_is m in
-        record { unpinned = k.unpinned; stapled = asked.stapled; exists = is_sound.txn; numbered = refl; sound = deed_sound sc s q query value is_sound k.asked_is }
+    record { fits = λ sent. tt; timely = closed (body.Query q) (body.Done given) (record { txn = q.txn; turn = q.turn }) (done_answers sc P q given refl refl (λ c. restarted_now sc c c.phase q s.epoch)) t }

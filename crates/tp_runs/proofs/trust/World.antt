@@ -145,7 +145,7 @@ coordinator_stays sc old new low high c l h =
     record {
       awaits = phase_stays sc old new low high c.txn c.phase l h.awaits;
       suits = h.suits;
-      so_far = λ undecided declared found. so_far_stays sc old new low high c.txn declared c.phase c.instances c.gathered l (h.so_far undecided declared found);
+      so_far = λ undecided declared found. so_far_stays sc old new low high c.txn declared _ _ c.instances c.gathered l (h.so_far undecided declared found);
       above = λ undecided. above_stays low high c.instances c.gathered l.le (h.above undecided);
       made_after = h.made_after;
       turn = h.turn;

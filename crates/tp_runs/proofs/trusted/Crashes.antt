@@ -3,24 +3,23 @@ use Rattle.std.proofs.Common.{IfSome, List, None, Option, Some, [], arith, lengt
 use Rattle.tp_model.proofs.RuleLemmas as rules
 use Rattle.tp_model.specs.Built.{is_built}
 use Rattle.tp_model.specs.Facts.{outcome_of}
+use Rattle.tp_model.specs.Words.{Actor, Decision, Fact, Letter, Mail, Record, Scenario, ServerId, TxnId}
 use Rattle.tp_model.specs.Words.actor
 use Rattle.tp_model.specs.Words.log
 use Rattle.tp_model.specs.Words.outcome
 use Rattle.tp_model.specs.Words.what
-use Rattle.tp_model.specs.Words.{Actor, Decision, Fact, Letter, Mail, Record, Scenario, ServerId, TxnId}
-use Rattle.tp_recover.specs.Held.{by_txn}
-use Rattle.tp_recover.specs.Kept.{kept}
-use Rattle.tp_recover.specs.Log.{decided_in}
 use Rattle.tp_coord.specs.Booted as coord_boot
 use Rattle.tp_coord.specs.Opened.{idle}
 use Rattle.tp_coord.specs.Row.{coordinator_row}
 use Rattle.tp_coord.specs.State.{Coordinator}
+use Rattle.tp_machine.specs.Machine.{State, acts_by, coordinator_fact, coordinator_move, goes_down, server_boots, server_fact, server_move, state_after}
+use Rattle.tp_machine.specs.Parts.{Part}
+use Rattle.tp_recover.specs.Held.{by_txn}
+use Rattle.tp_recover.specs.Kept.{kept}
+use Rattle.tp_recover.specs.Log.{decided_in}
 use Rattle.tp_server.specs.Booted.{boot_row, booted}
 use Rattle.tp_server.specs.Row.{ballot_of, server_row}
 use Rattle.tp_server.specs.State.{Server}
-use Rattle.tp_machine.specs.Machine.{goes_down, server_boots}
-use Rattle.tp_machine.specs.Machine.{State, acts_by, coordinator_fact, coordinator_move, server_fact, server_move, state_after}
-use Rattle.tp_machine.specs.Parts.{Part}
 use Rattle.tp_runs.proofs.agreement.Crashes.{booted_version}
 use Rattle.tp_runs.proofs.agreement.World.{Agrees}
 use Rattle.tp_runs.proofs.basics.Booted.{booted_entries, inquiries_are, records_of_scenario}
@@ -31,7 +30,6 @@ use Rattle.tp_runs.proofs.ids.Queries.{have_homes}
 use Rattle.tp_runs.proofs.ids.Valid.{IsValid, valid_built}
 use Rattle.tp_runs.proofs.known.World.{Pairs}
 use Rattle.tp_runs.proofs.trust.Acts.{ForcesPublished, SaysFit, act_trusts, coordinator_acts_trusts, server_acts_trusts}
-use Rattle.tp_runs.proofs.trust.Built.{AreBuilt, are_built}
 use Rattle.tp_runs.proofs.trust.Coordinator.{CoordinatorTrusts, RecordDecides, orders_fit, orders_timely}
 use Rattle.tp_runs.proofs.trust.Fit.{BodyFits}
 use Rattle.tp_runs.proofs.trust.Kept.{IsKept, IsTrusted, RecordKept, vote_cast}
@@ -85,7 +83,7 @@ booted_trusts sc w at part valid sound h found =
       keeps = λ n entry e.
           let own = booted_entries sc at part.log each n entry e in
           subst (IsKept I (record { 0 = n })) own.entry_is
-          (record { answers = tt; waiting = tt; unpinned = tt; ballot = subst (λ (txn : TxnId). I (vote_cast txn (ballot_of own.p))) own.own (was.kept.prepared own.p.txn own.p own.prepared_is) });
+          (record { answers = tt; waiting = tt; ballot = subst (λ (txn : TxnId). I (vote_cast txn (ballot_of own.p))) own.own (was.kept.prepared own.p.txn own.p own.prepared_is) });
       forces = tt;
       says = inquiries_are (λ (letter : Letter). BodyFits sc w.facts place place letter.body) (booted sc at k) (λ p. tt) (by_txn k.prepared);
       timely = inquiries_are (λ (letter : Letter). IfSome (stamp_of letter.body) (λ (stamped : Stamp). T letter.body)) (booted sc at k) (λ p. tt) (by_txn k.prepared);
@@ -100,16 +98,16 @@ booted_by_server sc w at part valid sound past h found =
 
 -- ---- coordinators
 
-crashed_by_coordinator : (sc : Scenario) (w : State) (txn : TxnId) (part : Part Coordinator) (c : Coordinator) (append : Option Record) → AreFew sc → AreBuilt sc → HaveHomes sc → IsValid sc → IsSound sc w → Agrees sc w → Pairs sc w → Trusts sc w
+crashed_by_coordinator : (sc : Scenario) (w : State) (txn : TxnId) (part : Part Coordinator) (c : Coordinator) (append : Option Record) → AreFew sc → HaveHomes sc → IsValid sc → IsSound sc w → Agrees sc w → Pairs sc w → Trusts sc w
     → IsCoordinatorUp w txn part c → LeftOfCoordinator sc w txn c append → MoveTrusts sc w (coordinator_move w.actors txn (goes_down coordinator_fact (what.Crashed (actor.Coordinator txn) ∷ []) part append))
-crashed_by_coordinator sc w txn part c append few built homes valid sound a pairs h up left =
+crashed_by_coordinator sc w txn part c append few homes valid sound a pairs h up left =
     let own = what.Crashed (actor.Coordinator txn) ∷ [] in
     coordinator_acts_trusts sc w txn part own None append [] a.past h up.found
     (act_trusts sc w txn part.up None own append [] (crashed_fits sc (length w.steps) (actor.Coordinator txn))
     (record {
       fits = tt;
       decides = left_shown w (actor.Coordinator txn) (λ (mail : Mail). (coordinator_row sc c mail).reaction.append) append (RecordDecides sc w.facts (length w.steps))
-          (λ n mail sent. (received_row_trusts sc w few built homes valid sound a pairs h n mail txn part c sent up).decides) left;
+          (λ n mail sent. (received_row_trusts sc w few homes valid sound a pairs h n mail txn part c sent up).decides) left;
       says = λ sent. tt;
       timely = λ sent. tt;
       old = λ sent turn said t. tt;
@@ -144,12 +142,12 @@ booted_by_coordinator sc w txn part past h found =
 
 -- ---- all of them
 
-pub trusts_crash_cases : (sc : Scenario) (w : State) → AreFew sc → AreBuilt sc → IsValid sc → WaitRightly sc w → IsSound sc w → Agrees sc w → Pairs sc w → Trusts sc w → CrashCases sc w (λ taken move. MoveTrusts sc w move)
-trusts_crash_cases sc w few built valid rightly sound a pairs h =
+pub trusts_crash_cases : (sc : Scenario) (w : State) → AreFew sc → IsValid sc → WaitRightly sc w → IsSound sc w → Agrees sc w → Pairs sc w → Trusts sc w → CrashCases sc w (λ taken move. MoveTrusts sc w move)
+trusts_crash_cases sc w few valid rightly sound a pairs h =
     record {
       server_crashed = λ at part s cut append up left. crashed_by_server sc w at part s append valid rightly sound a.past pairs h up left;
       server_booted = λ at part exists found down. booted_by_server sc w at part valid sound a.past h found;
-      coordinator_crashed = λ txn part c cut append exists up begun left. crashed_by_coordinator sc w txn part c append few built (have_homes sc valid) valid sound a pairs h up left;
+      coordinator_crashed = λ txn part c cut append exists up begun left. crashed_by_coordinator sc w txn part c append few (have_homes sc valid) valid sound a pairs h up left;
       coordinator_booted = λ txn part exists found down. booted_by_coordinator sc w txn part a.past h found;
     }
 
@@ -157,4 +155,4 @@ trusts_crash_cases sc w few built valid rightly sound a pairs h =
 pub trusts_crashed : (sc : Scenario) (w : State) → is_built sc ≡ true → WaitRightly sc w → IsSound sc w → Agrees sc w → Pairs sc w → Trusts sc w → CrashCases sc w (λ taken move. Trusts sc (state_after w taken move))
 trusts_crashed sc w built rightly sound a pairs h =
     crash_cases_as sc w (λ taken move. MoveTrusts sc w move) (λ taken move. Trusts sc (state_after w taken move)) (λ taken move t. state_after_trusts sc w taken move a h t)
-    (trusts_crash_cases sc w (few_queries sc (rules.valid_built sc built)) (are_built sc built) (valid_built sc built) rightly sound a pairs h)
+    (trusts_crash_cases sc w (few_queries sc (rules.valid_built sc built)) (valid_built sc built) rightly sound a pairs h)

@@ -1,6 +1,6 @@
 use Rattle.std.proofs.Common.{drop, ◌≡◌}
 use Rattle.tp_server.specs.Verdicts.{with_versions}
-use Rattle.tp_server.proofs.votes.learn.Given as goal
+use Rattle.tp_server.proofs.verdicts.learn.Given as goal
 
 -- the versions that are left go on from those learnt so far
 abbrev pub invariant-loop-wanted : goal.invariant-loop-wanted

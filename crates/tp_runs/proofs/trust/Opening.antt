@@ -1,46 +1,19 @@
--- What trust takes from the present stage: every transaction evaluates at commit; and from a scenario's rules, that a server knows at first
--- no version above the opening one.
-use Rattle.std.proofs.Common.{List, None, Option, Some, [], ap, arith, false, inl, inr, length, option_map, refl, slice_get, subst, suc, true, unwrap_or, zero, ℕ, ◌+◌, ◌<◌, ◌∷◌, ◌≡◌, ◌≤◌, ◌⊎◌}
-use Rattle.std.proofs.lemmas.Bool.{and_parts}
-use Rattle.std.proofs.lemmas.Bool.Decides.{nat_tests}
-use Rattle.std.specs.Cmp.Lexicographic.{pointwise}
+-- Trust: a server knows at first no version above the opening one, by a scenario's rules.
 use Rattle.std.specs.List.{list_all}
 use Rattle.std.specs.Option.{option_map_or}
-use Rattle.tp_types.proofs.EachLemmas.{each_get, each_placed}
+use Rattle.std.proofs.Common.{List, None, Option, Some, [], arith, length, option_map, refl, slice_get, subst, suc, true, unwrap_or, zero, ℕ, ◌+◌, ◌<◌, ◌≤◌, ◌∷◌, ◌≡◌}
+use Rattle.std.proofs.lemmas.Bool.{and_parts}
+use Rattle.std.proofs.lemmas.Bool.Decides.{nat_tests}
 use Rattle.tp_types.proofs.ListLemmas.{three_parts}
-use Rattle.tp_types.specs.Each.{Each}
+use Rattle.std.specs.Cmp.Lexicographic.{pointwise}
 use Rattle.tp_model.proofs.RuleLemmas as rules
 use Rattle.tp_model.specs.Built.{is_built}
-use Rattle.tp_model.specs.Demand.{is_incremental}
 use Rattle.tp_model.specs.Ids.{same_item}
 use Rattle.tp_model.specs.Limits.{has_count}
 use Rattle.tp_model.specs.Valid.{are_distinct, are_known, are_valid_from, is_known, is_valid_admin, is_valid_server, owned_from, same_admin_name, same_server_name}
 use Rattle.tp_model.specs.Versions.{opening_version}
-use Rattle.tp_model.specs.Words.{Admin, AdminId, Scenario, Scheme, ServerDecl, Transaction, Version}
-use Rattle.tp_model.specs.Words.scheme
+use Rattle.tp_model.specs.Words.{Admin, AdminId, Scenario, ServerDecl, Version}
 use Rattle.tp_machine.specs.Named.{IsAdmin}
-use Rattle.tp_runs.proofs.ids.Built.{built_txn}
-
--- ---- transactions
-
--- each transaction is of a scheme that is built
-pub record AreBuilt (sc : Scenario) : Type 0 where
-  pub schemes : Each (λ (declared : Transaction). (declared.scheme ≡ scheme.Deferred) ⊎ (declared.scheme ≡ scheme.Punctual)) sc.txns
-
-pub are_built : (sc : Scenario) → is_built sc ≡ true → AreBuilt sc
-are_built sc built =
-    record { schemes = each_placed (λ (declared : Transaction). (declared.scheme ≡ scheme.Deferred) ⊎ (declared.scheme ≡ scheme.Punctual)) sc.txns (λ n declared e. (built_txn sc n declared built e).scheme_is) }
-
-evaluates_by : (chosen : Scheme) → (chosen ≡ scheme.Deferred) ⊎ (chosen ≡ scheme.Punctual) → is_incremental chosen ≡ false
-evaluates_by chosen (inl deferred) = ap is_incremental deferred
-evaluates_by chosen (inr punctual) = ap is_incremental punctual
-
--- so it evaluates at commit
-pub evaluates : (sc : Scenario) (n : ℕ) (declared : Transaction) → AreBuilt sc → slice_get sc.txns n ≡ Some declared → is_incremental declared.scheme ≡ false
-evaluates sc n declared built found =
-    evaluates_by declared.scheme (each_get (λ (t : Transaction). (t.scheme ≡ scheme.Deferred) ⊎ (t.scheme ≡ scheme.Punctual)) sc.txns n declared built.schemes found)
-
--- ---- versions known at first
 
 abbrev opening_at : List Admin → ℕ → ℕ
 opening_at admins n = (unwrap_or (option_map (λ (declared : Admin). declared.opening) (slice_get admins n)) (record { 0 = 0 })).0
