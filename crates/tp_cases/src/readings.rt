@@ -42,7 +42,6 @@ fn refusal(alloc: Global, why: &ScenarioError) -> Result<Vec<u8>, NoMemory> {
         ScenarioError::Range { path } => at(alloc, "range ", path),
         ScenarioError::Unknown { path } => at(alloc, "unknown ", path),
         ScenarioError::Policy { path, fault } => policy(alloc, path, *fault),
-        ScenarioError::NotYet { path } => at(alloc, "notyet ", path),
         ScenarioError::NoMemory => Err(NoMemory),
     }
 }

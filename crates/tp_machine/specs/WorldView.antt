@@ -2,7 +2,7 @@
 use Rattle.std.specs.Prelude.{◌≡◌, length, Bool, true, false, Some, None}
 use Rattle.tp_model.specs.Words.{Actor, Scenario, Step}
 use Rattle.tp_model.specs.Words.actor
-use Rattle.tp_model.specs.Built.{is_built}
+use Rattle.tp_model.specs.Valid.{is_valid}
 use Rattle.tp_machine.specs.declared.actors.Actors.{Actors}
 use Rattle.tp_machine.specs.declared.history.History.{History}
 use Rattle.tp_machine.specs.declared.error.StepError.{StepError}
@@ -59,11 +59,11 @@ is_office actor.Authority = true
 is_office actor.Master = true
 is_office _ = false
 
--- what is so of every world: its scenario is of the form that is built, no run of it makes a record that a log does not take, its
+-- what is so of every world: its scenario is valid, no run of it makes a record that a log does not take, its
 -- actors are all there, its steps name what exists, and its facts are those that they give; and while it is not given up it is
 -- reached
 pub record IsWorld (world : WorldView) : Type 0 where
-  pub built : is_built world.scenario ≡ true
+  pub valid : is_valid world.scenario ≡ true
   pub fit : AllFitLogs world.scenario
   pub whole : HasAllActors world.scenario world.machine.state.actors
   pub named : Each (IsStepOf world.scenario) world.machine.state.steps

@@ -12,14 +12,14 @@
 //! - Whatever image a crash may leave of an actor's disk, it gives exactly the records that the machine has of the
 //!   actor, also in a world that is given up; the offices alone have no disk (`World::disk`: `kept`, `none`)
 //! - A world that is not given up is the machine of its scenario after the steps that it shows; its scenario is
-//!   built, its steps name what exists, and its facts are those that they give, also of a world that is given
-//!   up (`World::facts`: `reached`, `built`, `named`, `of_steps`; `World::scenario`: `built`)
+//!   valid, its steps name what exists, and its facts are those that they give, also of a world that is given
+//!   up (`World::facts`: `reached`, `valid`, `named`, `of_steps`; `World::scenario`: `valid`)
 //! - The views show the machine (`World::facts` and `scenario`: `value`; `mails`; `undelivered_count`: `value`;
 //!   `steps`, `given_up`, `down`, `undelivered`, `is_submitted`, `armed`; `ending`: `value`)
 //! - The oldest undelivered mail is the first of the undelivered ones, and it was sent (`World::oldest`:
 //!   `value`, `sent`)
 //!
-//! `World::start` asks that the scenario has the built form (`built`), and that no run of it makes a record that is too
+//! `World::start` asks that the scenario is valid (`valid`), and that no run of it makes a record that is too
 //! long for a log (`fit`), which holds of every such scenario (`tp_runs`); `World::step` that what the step names
 //! exists in the scenario, and that no office is to crash or to boot (`ids`). So no log refuses a record but for want
 //! of memory, and no disk fails outside a cut.

@@ -2,7 +2,7 @@
 ghost use Rattle.std.specs.Prelude.{◌≡◌, ◌≢◌, ℕ, ◌==◌, ◌<◌, ◌≤◌, ◌*◌, length, true, false, Some, None, is_none, IfOk, IfErr, IfSome, OnOk, OnErr, IsErrOf, IsErr, slice_get};
 ghost use Rattle.std.specs.Option.{option_copied};
 ghost use Rattle.std.specs.List.{list_any};
-ghost use Rattle.tp_model.specs.Built as built;
+ghost use Rattle.tp_model.specs.Valid as valid;
 ghost use Rattle.tp_machine.specs.declared.error.StepError.{StepError};
 ghost use Rattle.tp_machine.specs.WorldView.{start, IsReached, HasItsFacts, Does, Refuses, GivesUp, is_office};
 ghost use Rattle.tp_machine.specs.Fits.{AllFitLogs};
@@ -56,7 +56,7 @@ impl World {
     /// The world of a scenario before the first step. That no run of it makes a record that a log does not take holds of every
     /// scenario that is run; it is shown where all runs are spoken of.
     pub fn start(alloc: Global, scenario: &Scenario) -> Result<World, NoMemory>
-        requires built { built.is_built scenario.now ≡ true }
+        requires valid { valid.is_valid scenario.now ≡ true }
         requires fit { AllFitLogs scenario.now }
         ensures { IfOk result (λ world. world ≡ start scenario.now) }
     {
@@ -105,7 +105,7 @@ impl World {
         ensures reached { IsReached self.now }
         ensures named { Each (IsStepOf self.now.scenario) self.now.machine.state.steps }
         ensures of_steps { HasItsFacts self.now }
-        ensures built { built.is_built self.now.scenario ≡ true }
+        ensures valid { valid.is_valid self.now.scenario ≡ true }
     {
         &self.history.facts
     }
@@ -127,7 +127,7 @@ impl World {
     /// The scenario of the start.
     pub fn scenario(&self) -> &Scenario
         ensures value { result.now ≡ self.now.scenario }
-        ensures built { built.is_built self.now.scenario ≡ true }
+        ensures valid { valid.is_valid self.now.scenario ≡ true }
     {
         &self.scenario
     }

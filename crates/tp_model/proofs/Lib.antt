@@ -1,4 +1,3 @@
-pub mod BuiltLemmas
 pub mod ConditionLemmas
 pub mod DemandLemmas
 pub mod HistoryLemmas

@@ -1,17 +1,16 @@
--- The rules of a valid scenario, and the conditions of the present stage, one by one.
-use Rattle.std.proofs.Common.{◌≡◌, ℕ, ◌≤◌, true, ◌&&◌, nat_le, [], length, arith}
+-- The rules of a valid scenario, one by one.
+use Rattle.std.proofs.Common.{◌≡◌, ℕ, ◌≤◌, true, ◌&&◌, nat_le, length, arith}
 use Rattle.std.proofs.lemmas.Bool.{and_parts}
 use Rattle.std.proofs.lemmas.Bool.Decides.{nat_tests}
 use Rattle.std.specs.List.{list_all}
 use Rattle.tp_types.proofs.ListLemmas.{three_parts}
 use Rattle.tp_model.specs.Words.{Scenario}
-use Rattle.tp_model.specs.Built.{is_built}
 use Rattle.tp_model.specs.Limits.{clock_limit, has_count, is_from_to}
-use Rattle.tp_model.specs.Stage.{are_plain_txns, is_stage}
 use Rattle.tp_model.specs.Valid.{IsValid, are_distinct, are_valid_from, is_valid_txn, same_server_name, same_txn_name, are_valid_admins, are_valid_clients, are_valid_creds, are_valid_items, are_valid_officers, are_valid_publishers, are_valid_servers, are_valid_steps, are_valid_txns, has_valid_data, has_valid_policies, has_valid_scripts, is_valid}
 
 -- what a valid scenario keeps
 pub rules_of : (sc : Scenario) → is_valid sc ≡ true → IsValid sc
+unfolding is_valid
 rules_of sc h =
     let whole = three_parts (has_valid_policies sc) (has_valid_data sc) (has_valid_scripts sc) h in
     let policies = three_parts (are_valid_admins sc.admins) (nat_le sc.clock clock_limit) (are_valid_creds sc.creds) whole.0 in
@@ -40,12 +39,3 @@ few_servers sc h = count_most 1 16 (length sc.servers) (three_parts (has_count 1
 
 pub few_txns : (sc : Scenario) → IsValid sc → length sc.txns ≤ 128
 few_txns sc h = count_most 0 128 (length sc.txns) (three_parts (has_count 0 128 sc.txns) (list_all (is_valid_txn sc) sc.txns) (are_distinct same_txn_name sc.txns) h.txns).0
-
--- a built scenario is valid, and of the present stage
-pub valid_built : (sc : Scenario) → is_built sc ≡ true → IsValid sc
-unfolding is_built
-valid_built sc h = rules_of sc (and_parts (is_valid sc) (is_stage sc) h).0
-
-pub stage_built : (sc : Scenario) → is_built sc ≡ true → are_plain_txns sc.txns ≡ true
-unfolding is_built
-stage_built sc h = (and_parts (is_valid sc) (is_stage sc) h).1

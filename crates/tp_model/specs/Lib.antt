@@ -1,6 +1,5 @@
 pub mod Agreement
 pub mod Authorisation
-pub mod Built
 pub mod Causes
 pub mod Commits
 pub mod Credentials
@@ -14,7 +13,6 @@ pub mod Outside
 pub mod Policies
 pub mod Queries
 pub mod SerialRun
-pub mod Stage
 pub mod Trust
 pub mod TrustedHistory
 pub mod Valid

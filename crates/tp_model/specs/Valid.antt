@@ -1,4 +1,4 @@
--- The rules that every scenario keeps, whatever of it is built: its limits, that names are apart, and that what it names exists. That
+-- The rules that every scenario keeps: its limits, that names are apart, and that what it names exists. That
 -- a policy is one of the policy language its reader promises.
 use Rattle.std.specs.Prelude.{◌≡◌, ℕ, ◌+◌, ◌^◌, ◌==◌, ◌&&◌, ◌||◌, nat_le, nat_lt, List, [], ◌∷◌, length, Bool, true, false, not, pos, neg_ℤ, if◌then◌else◌}
 use Rattle.std.specs.Cmp.Lexicographic.{pointwise}
@@ -319,7 +319,7 @@ has_valid_scripts sc =
     && (are_valid_publishers sc && are_valid_officers sc)
 
 -- the scenario keeps every rule
-abbrev pub is_valid : Scenario → Bool
+unfoldable pub is_valid : Scenario → Bool
 is_valid sc = has_valid_policies sc && has_valid_data sc && has_valid_scripts sc
 
 -- ---- the rules one by one, as proofs take them

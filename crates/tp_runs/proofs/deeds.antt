@@ -1,10 +1,10 @@
 -- Lists of deeds alone: that their sums are exact, how deeds follow the queries, what they read, how a store stands to the values of servers,
 -- and when a commit is serial.
-pub mod Built
 pub mod Clamped
 pub mod Commits
 pub mod Joined
 pub mod Lengths
+pub mod Opening
 pub mod Ranges
 pub mod Reads
 pub mod Refused

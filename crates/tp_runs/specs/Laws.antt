@@ -2,7 +2,7 @@
 use Rattle.std.specs.Prelude.{◌≡◌, ◌*◌, ◌≤◌, ◌&&◌, Bool, List, length, not, true, ℕ}
 use Rattle.tp_model.specs.Words.actor
 use Rattle.tp_model.specs.Words.{Scenario, Step, TxnId}
-use Rattle.tp_model.specs.Built.{is_built}
+use Rattle.tp_model.specs.Valid.{is_valid}
 use Rattle.tp_model.specs.SerialRun.{store_of}
 use Rattle.tp_model.specs.TrustedHistory.{TrustedSoFar, have_ended}
 use Rattle.tp_machine.specs.declared.actors.Actors.{Actors}
@@ -42,19 +42,19 @@ HasAllEnds sc w = AreFinished sc w → have_ended sc w.facts 0 sc.txns ≡ true
 -- of every scenario that is run, after every list of steps that name what exists, the history is trusted so far
 abbrev pub IsAlwaysTrusted : Type 0
 IsAlwaysTrusted =
-    (sc : Scenario) (steps : List Step) → is_built sc ≡ true → Each (IsStepOf sc) steps
+    (sc : Scenario) (steps : List Step) → is_valid sc ≡ true → Each (IsStepOf sc) steps
     → IsTrustedState sc (after sc steps).state
 
 -- and where all transactions have ended, nothing that was committed is missing
 abbrev pub HasAlwaysAllCommits : Type 0
 HasAlwaysAllCommits =
-    (sc : Scenario) (steps : List Step) → is_built sc ≡ true → Each (IsStepOf sc) steps
+    (sc : Scenario) (steps : List Step) → is_valid sc ≡ true → Each (IsStepOf sc) steps
     → HasAllCommits sc (after sc steps).state
 
 -- and where all are finished, all have ended
 abbrev pub HasAlwaysAllEnds : Type 0
 HasAlwaysAllEnds =
-    (sc : Scenario) (steps : List Step) → is_built sc ≡ true → Each (IsStepOf sc) steps
+    (sc : Scenario) (steps : List Step) → is_valid sc ≡ true → Each (IsStepOf sc) steps
     → HasAllEnds sc (after sc steps).state
 
 -- so many mails come on each step, if each query that waits counts as one more: a server that boots asks the coordinator of each
@@ -66,10 +66,10 @@ mails_most = 128
 -- of every scenario that is run a list of steps that name what exists sends few mails: at most 128 times as many as it has steps
 abbrev pub SendsFewMails : Type 0
 SendsFewMails =
-    (sc : Scenario) (steps : List Step) → is_built sc ≡ true → Each (IsStepOf sc) steps
+    (sc : Scenario) (steps : List Step) → is_valid sc ≡ true → Each (IsStepOf sc) steps
     → length (after sc steps).state.mails ≤ mails_most * length steps
 
 -- of every scenario that is run, after every list of steps that name what exists, each record on each actor's log fits
 -- a log
 abbrev pub AlwaysFitLogs : Type 0
-AlwaysFitLogs = (sc : Scenario) → is_built sc ≡ true → AllFitLogs sc
+AlwaysFitLogs = (sc : Scenario) → is_valid sc ≡ true → AllFitLogs sc

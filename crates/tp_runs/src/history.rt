@@ -2,7 +2,7 @@
 ghost use Rattle.std.specs.Prelude.{◌≡◌, ◌≤◌, ◌*◌, length, true, false, IfOk, IsErr, OnOk};
 ghost use Rattle.tp_model.specs.SerialRun.{overlay, store_of};
 ghost use Rattle.tp_model.specs.TrustedHistory.{have_ended};
-ghost use Rattle.tp_model.specs.Built as built;
+ghost use Rattle.tp_model.specs.Valid as valid;
 ghost use Rattle.tp_machine.specs.Machine.{ending_of};
 ghost use Rattle.tp_machine.specs.WorldView as views;
 ghost use Rattle.tp_runs.specs.Bounded.{AreBounded};
@@ -16,7 +16,7 @@ use tp_types::{Ending, Fact, List, NoMemory, Scenario};
 
 /// The world of a scenario before its first step. No run of it makes a record that a log does not take.
 pub fn start(alloc: Global, scenario: &Scenario) -> Result<World, NoMemory>
-    requires { built.is_built scenario.now ≡ true }
+    requires { valid.is_valid scenario.now ≡ true }
     ensures { IfOk result (λ world. world ≡ views.start scenario.now) }
 {
     records_fit();

@@ -37,7 +37,7 @@
 //! These hold after every list of steps, in any order, with losses, timers, deliveries of any mail ever sent, and
 //! crashes and boots of servers and coordinators, where a crash in a receipt leaves the record of that receipt or nothing;
 //! agreement, trust with causes, and serial data also of a world that was given up. The calls lean on the condition of
-//! `World::start`, that the scenario has the built form, and on that of `World::step`; the laws ask both of
+//! `World::start`, that the scenario is valid, and on that of `World::step`; the laws ask both of
 //! their scenario and their steps. Each call takes from `World::facts` that the world is what its steps give.
 #![tactic(auto)]
 

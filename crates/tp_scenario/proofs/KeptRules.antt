@@ -106,6 +106,7 @@ rules_kept sc walk =
 
 -- all rules together
 all_kept : (sc : Scenario) → IsValid sc → is_valid sc ≡ true
+unfolding is_valid
 all_kept sc rules =
     and_from _ _
     (and_from (has_valid_policies sc) (has_valid_data sc) (and_from _ _ (and_from _ _ rules.admins rules.clock) rules.creds) (and_from _ _ (and_from _ _ rules.servers rules.items) rules.txns))

@@ -1,5 +1,4 @@
 pub mod FewRules
-pub mod FormLemmas
 pub mod GrowingLists
 pub mod Inverses
 pub mod KeptPolicies

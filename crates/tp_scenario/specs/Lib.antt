@@ -1,6 +1,5 @@
 pub mod Chain
 pub mod Faults
-pub mod Forms
 pub mod Names
 pub mod Paths
 pub mod Policies

@@ -10,7 +10,6 @@ use Rattle.tp_scenario.specs.declared.fault.Kind.TheVariants as kind
 use Rattle.tp_scenario.specs.declared.path.Site.{Site}
 use Rattle.tp_scenario.specs.declared.from_bytes.ScenarioError.{ScenarioError}
 use Rattle.tp_scenario.specs.declared.from_bytes.ScenarioError.TheVariants as refusal
-use Rattle.tp_scenario.specs.Forms.{first_form}
 use Rattle.tp_scenario.specs.Paths.{site_text}
 use Rattle.tp_scenario.specs.Walk.{walk_of}
 
@@ -18,7 +17,7 @@ use Rattle.tp_scenario.specs.Walk.{walk_of}
 abbrev pub length_max : ℕ
 length_max = 16777216
 
--- where a fault or a form stands, as it is written
+-- where a fault stands, as it is written
 abbrev pub path_of : Site → Text
 path_of site = record { 0 = site_text site }
 
@@ -32,16 +31,11 @@ error_at (kind.Policy why) path = refusal.Policy path why
 abbrev pub error_of : Fault → ScenarioError
 error_of fault = error_at fault.kind (path_of fault.site)
 
-abbrev pub built_or : Scenario → Option Site → Result Scenario ScenarioError
-built_or scenario None = Ok scenario
-built_or scenario (Some site) = Err (refusal.NotYet (path_of site))
-
 abbrev pub answer_by : Result Scenario Fault → Result Scenario ScenarioError
-answer_by (Ok scenario) = built_or scenario (first_form scenario)
+answer_by (Ok scenario) = Ok scenario
 answer_by (Err fault) = Err (error_of fault)
 
--- what is answered to a JSON value: its scenario, or the first fault of its walk; where the walk gives a scenario, the first form that
--- is not built
+-- what is answered to a JSON value: its scenario, or the first fault of its walk
 abbrev pub answer_to : Data → Result Scenario ScenarioError
 answer_to value = answer_by (walk_of value)
 
@@ -72,7 +66,7 @@ Says bytes answer = SaysTooLong bytes answer ⊎ (SaysNoJson bytes answer ⊎ Sa
 abbrev pub IsOutOfMemory : Result Scenario ScenarioError → Type 0
 IsOutOfMemory answer = answer ≡ Err refusal.NoMemory
 
--- the bytes are a text of the scenario, whether it is built or not
+-- the bytes are a text of the scenario
 pub record IsText (bytes : List ℕ) (scenario : Scenario) : Type 0 where
   pub short : length bytes ≤ length_max
   pub utf8 : IsUtf8 bytes

@@ -3,19 +3,16 @@ ghost use Rattle.std.specs.Prelude.{◌≡◌, ◌⊎◌, ◌<◌, length, true,
 ghost use Rattle.serde_json.specs.Read.{read as read_json};
 ghost use Rattle.serde_json.specs.View.{view};
 ghost use Rattle.tp_types.specs.declared.scenario.Scenario.{Scenario};
-ghost use Rattle.tp_model.specs.Built.{is_built};
 ghost use Rattle.tp_model.specs.Valid.{is_valid};
 ghost use Rattle.tp_scenario.specs.declared.from_bytes.ScenarioError.{ScenarioError};
-ghost use Rattle.tp_scenario.specs.Forms as forms;
 ghost use Rattle.tp_scenario.specs.Reads as reads;
 ghost use Rattle.tp_scenario.specs.Reads.{Says, IsOutOfMemory, IsText, GivesValid, HasOneAnswer, IsTextOfOne, length_max};
 ghost use Rattle.tp_scenario.specs.Spelled.{HasOneSplit, ReadsQueries, SaysOneQuery, ReadsSteps, SaysOneStep, GivesQueries, GivesSteps};
 ghost use Rattle.tp_scenario.specs.Walk as walk;
-ghost use Rattle.tp_scenario.specs.mirrors.Refusing.{IsRefusal, IsTextError, IsUnbuilt};
+ghost use Rattle.tp_scenario.specs.mirrors.Refusing.{IsRefusal, IsTextError};
 
 use crate::fault::{Fault, Kind, WalkError};
-use crate::forms::first_form;
-use crate::path::{Site, site_text};
+use crate::path::site_text;
 use crate::whole::walked;
 use serde_json::Value;
 use std::alloc::Global;
@@ -40,8 +37,6 @@ pub enum ScenarioError {
     Unknown { path: Text },
     /// The text there is no policy.
     Policy { path: Text, fault: ParseError },
-    /// There stands what is not built yet.
-    NotYet { path: Text },
     NoMemory,
 }
 
@@ -92,46 +87,17 @@ fn refused(alloc: Global, fault: &Fault) -> ScenarioError
     }
 }
 
-fn not_yet(alloc: Global, site: &Site) -> ScenarioError
-    ensures { IsRefusal (ScenarioError.NotYet (reads.path_of site.now)) result }
-{
-    match site_text(alloc, site) {
-        Ok(path) => ScenarioError::NotYet { path },
-        Err(NoMemory) => ScenarioError::NoMemory,
-    }
-}
-
-fn built(alloc: Global, scenario: Scenario) -> Result<Scenario, ScenarioError>
-    ensures { IsOutOfMemory result
-        ⊎ (result ≡ reads.built_or scenario (forms.first_form scenario)) }
-{
-    match why_not_built(alloc, &scenario) {
-        None => Ok(scenario),
-        Some(error) => Err(error),
-    }
-}
-
-/// Why a scenario is refused though it has no fault.
-fn why_not_built(alloc: Global, scenario: &Scenario) -> Option<ScenarioError>
-    ensures { IsUnbuilt result (forms.first_form scenario.now) }
-{
-    match first_form(scenario) {
-        None => None,
-        Some(site) => Some(not_yet(alloc, &site)),
-    }
-}
-
 fn scenario_of(alloc: Global, value: &Value) -> Result<Scenario, ScenarioError>
     ensures { IsOutOfMemory result ⊎ (result ≡ reads.answer_to (view value.now)) }
 {
     match walked(alloc, value) {
-        Ok(scenario) => built(alloc, scenario),
+        Ok(scenario) => Ok(scenario),
         Err(WalkError::NoMemory) => Err(ScenarioError::NoMemory),
         Err(WalkError::Fault(fault)) => Err(refused(alloc, &fault)),
     }
 }
 
-/// Reads a scenario from a JSON text. What is wrong first in it is named, or what is not built yet.
+/// Reads a scenario from a JSON text. What is wrong first in it is named.
 ///
 /// A key that an object has twice counts with its last value.
 pub fn read(alloc: Global, bytes: &[u8]) -> Result<Scenario, ScenarioError>
@@ -140,7 +106,6 @@ pub fn read(alloc: Global, bytes: &[u8]) -> Result<Scenario, ScenarioError>
         → IsOutOfMemory result ⊎ (result ≡ answer) }
     ensures text { IfOk result (λ scenario. IsText bytes.now scenario) }
     ensures valid { IfOk result (λ scenario. is_valid scenario ≡ true) }
-    ensures built { IfOk result (λ scenario. is_built scenario ≡ true) }
     ensures too_long { length_max < length bytes.now → result ≡ Err ScenarioError.TooLong }
 {
     if bytes.len() > LENGTH_MAX {
@@ -151,7 +116,7 @@ pub fn read(alloc: Global, bytes: &[u8]) -> Result<Scenario, ScenarioError>
 }
 
 /// Bytes have at most one answer, and are a text of at most one scenario. What the walk over a JSON value gives keeps every rule of a
-/// scenario, whether it is built or not.
+/// scenario.
 /// Its body is empty: a law that only a definition states could stay unproved.
 pub fn reading_is_exact()
     ensures answer { HasOneAnswer }

@@ -4,10 +4,10 @@
 //!
 //! - The answer is the one that the bytes have, or memory was refused (`read`: `answer`, `only`)
 //! - So each refusal comes exactly where its definition holds, with that path, unless memory is refused; and a
-//!   scenario is read exactly where the walk gives it and it has no form that is not built (the same)
-//! - What is read is what the bytes say, keeps every rule, and is built (`read`: `text`, `valid`, `built`)
-//! - What the walk gives keeps every rule on a scenario's value, whether it is built or not; nothing tests that
-//!   again (`reading_is_exact`: `valid`)
+//!   scenario is read exactly where the walk gives it (the same)
+//! - What is read is what the bytes say, and keeps every rule (`read`: `text`, `valid`)
+//! - What the walk gives keeps every rule on a scenario's value; nothing tests that again (`reading_is_exact`:
+//!   `valid`)
 //! - TooLong is answered always above the limit (`read`: `too_long`)
 //! - Bytes have at most one answer, and are a text of at most one scenario (`reading_is_exact`: `answer`,
 //!   `text`)
@@ -24,7 +24,6 @@ mod admins;
 mod command;
 mod creds;
 mod fault;
-mod forms;
 mod from_bytes;
 mod names;
 mod object;

@@ -6,9 +6,8 @@ use Rattle.std.proofs.lemmas.Nat.{mul-le}
 use Rattle.tp_types.proofs.ListLemmas.{three_parts}
 use Rattle.tp_model.specs.Words.{Scenario, Transaction}
 use Rattle.tp_model.specs.Limits.{has_count, is_from_to, steps_limit}
-use Rattle.tp_model.specs.Valid.{are_distinct, has_valid_creds, is_name_of_server, is_valid_query, is_valid_step, is_valid_txn, same_txn_name}
-use Rattle.tp_model.specs.Built.{is_built}
-use Rattle.tp_model.proofs.RuleLemmas.{count_most, few_servers, few_txns, valid_built}
+use Rattle.tp_model.specs.Valid.{are_distinct, has_valid_creds, is_name_of_server, is_valid, is_valid_query, is_valid_step, is_valid_txn, same_txn_name}
+use Rattle.tp_model.proofs.RuleLemmas.{count_most, few_servers, few_txns, rules_of}
 use Rattle.tp_machine.specs.Machine.{Machine}
 use Rattle.tp_machine.specs.WorldView.{WorldView}
 use Rattle.tp_runs.specs.Laws.{mails_most}
@@ -16,12 +15,12 @@ use Rattle.tp_top.specs.Auto.{most_queries, greatest_rounds}
 use Rattle.tp_top.specs.mirrors.Answers.{IsListed}
 use Rattle.tp_top.proofs.TrustedRun.{listed_steps}
 
--- a built scenario has few transactions and few servers
-pub few_txns_built : (sc : Scenario) → is_built sc ≡ true → length sc.txns ≤ 128
-few_txns_built sc h = few_txns sc (valid_built sc h)
+-- a valid scenario has few transactions and few servers
+pub few_txns_valid : (sc : Scenario) → is_valid sc ≡ true → length sc.txns ≤ 128
+few_txns_valid sc h = few_txns sc (rules_of sc h)
 
-pub few_servers_built : (sc : Scenario) → is_built sc ≡ true → length sc.servers ≤ 16
-few_servers_built sc h = few_servers sc (valid_built sc h)
+pub few_servers_valid : (sc : Scenario) → is_valid sc ≡ true → length sc.servers ≤ 16
+few_servers_valid sc h = few_servers sc (rules_of sc h)
 
 -- of each transaction there are at most so many queries, and so many rounds
 record IsFew (txn : Transaction) : Type 0 where
@@ -50,16 +49,16 @@ fold_rounds sc (txn ∷ txns) most h low =
     let few = few_parts sc txn parts.0 in
     fold_rounds sc txns (max most txn.rounds) parts.1 (omega (arith, low, few.rounds))
 
-txns_valid : (sc : Scenario) → is_built sc ≡ true → list_all (is_valid_txn sc) sc.txns ≡ true
-txns_valid sc h = (three_parts (has_count 0 128 sc.txns) (list_all (is_valid_txn sc) sc.txns) (are_distinct same_txn_name sc.txns) (valid_built sc h).txns).1
+txns_valid : (sc : Scenario) → is_valid sc ≡ true → list_all (is_valid_txn sc) sc.txns ≡ true
+txns_valid sc h = (three_parts (has_count 0 128 sc.txns) (list_all (is_valid_txn sc) sc.txns) (are_distinct same_txn_name sc.txns) (rules_of sc h).txns).1
 
 -- no transaction has more than 16 queries
-pub most_queries_built : (sc : Scenario) → is_built sc ≡ true → most_queries sc.txns ≤ 16
-most_queries_built sc h = fold_queries sc sc.txns 0 (txns_valid sc h) (omega arith)
+pub most_queries_valid : (sc : Scenario) → is_valid sc ≡ true → most_queries sc.txns ≤ 16
+most_queries_valid sc h = fold_queries sc sc.txns 0 (txns_valid sc h) (omega arith)
 
 -- nor a greater round limit
-pub most_rounds_built : (sc : Scenario) → is_built sc ≡ true → greatest_rounds sc.txns ≤ 16
-most_rounds_built sc h = fold_rounds sc sc.txns 2 (txns_valid sc h) (omega arith)
+pub most_rounds_valid : (sc : Scenario) → is_valid sc ≡ true → greatest_rounds sc.txns ≤ 16
+most_rounds_valid sc h = fold_rounds sc sc.txns 2 (txns_valid sc h) (omega arith)
 
 -- within the limits of a scenario the product fits 32 bits
 pub work_is_small : (txns queries rounds servers : ℕ) → txns ≤ 128 → queries ≤ 16 → rounds ≤ 16 → servers ≤ 16
@@ -72,11 +71,11 @@ work_is_small txns queries rounds servers t q r s =
 
 -- ---- the undelivered mails after the listed steps
 
-few_steps : (sc : Scenario) → is_built sc ≡ true → length sc.steps ≤ 100000
-few_steps sc h = count_most 0 steps_limit (length sc.steps) (and_parts (has_count 0 steps_limit sc.steps) (list_all (is_valid_step sc) sc.steps) (valid_built sc h).steps).0
+few_steps : (sc : Scenario) → is_valid sc ≡ true → length sc.steps ≤ 100000
+few_steps sc h = count_most 0 steps_limit (length sc.steps) (and_parts (has_count 0 steps_limit sc.steps) (list_all (is_valid_step sc) sc.steps) (rules_of sc h).steps).0
 
 -- a world after its listed steps has few of them, as these send at most 128 times as many mails
-pub few_undelivered : (world : WorldView) (undelivered : ℕ) → is_built world.scenario ≡ true → IsListed world → (world.given_up ≡ false → undelivered ≤ mails_most * length world.machine.state.steps) → undelivered < 2 ^ 32
+pub few_undelivered : (world : WorldView) (undelivered : ℕ) → is_valid world.scenario ≡ true → IsListed world → (world.given_up ≡ false → undelivered ≤ mails_most * length world.machine.state.steps) → undelivered < 2 ^ 32
 few_undelivered world undelivered h listed_is few =
     let done : length world.machine.state.steps ≡ length world.scenario.steps =
     ap (λ (m : Machine). length m.state.steps) listed_is.now ∙ ap length (listed_steps world.scenario h listed_is.lawful) in

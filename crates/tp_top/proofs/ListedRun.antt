@@ -7,10 +7,9 @@ use Rattle.std.proofs.lemmas.Option.{none-some}
 use Rattle.tp_model.specs.Words.{Actor, Scenario, Step}
 use Rattle.tp_model.specs.Words.actor
 use Rattle.tp_model.specs.Words.step
-use Rattle.tp_model.specs.Built.{is_built}
 use Rattle.tp_model.specs.Limits.{has_count, steps_limit}
-use Rattle.tp_model.specs.Valid.{is_admin, is_server, is_valid_cut, is_valid_step, may_crash}
-use Rattle.tp_model.proofs.RuleLemmas.{valid_built}
+use Rattle.tp_model.specs.Valid.{is_admin, is_server, is_valid, is_valid_cut, is_valid_step, may_crash}
+use Rattle.tp_model.proofs.RuleLemmas.{rules_of}
 use Rattle.tp_machine.specs.declared.error.StepError.{StepError}
 use Rattle.tp_machine.specs.Machine.{Machine, after_steps, machine_after, refusal}
 use Rattle.tp_machine.specs.WorldView.{Does, Refuses, WorldView}
@@ -52,9 +51,9 @@ all_exist sc (taken ∷ steps) valid =
     let v = and_parts (is_valid_step sc taken) (list_all (is_valid_step sc) steps) valid in
     (step_exists sc taken v.0, all_exist sc steps v.1)
 
-pub listed_exist : (sc : Scenario) → is_built sc ≡ true → Each (IsStepOf sc) sc.steps
-listed_exist sc built =
-    all_exist sc sc.steps (and_parts (has_count 0 steps_limit sc.steps) (list_all (is_valid_step sc) sc.steps) (valid_built sc built).steps).1
+pub listed_exist : (sc : Scenario) → is_valid sc ≡ true → Each (IsStepOf sc) sc.steps
+listed_exist sc formed =
+    all_exist sc sc.steps (and_parts (has_count 0 steps_limit sc.steps) (list_all (is_valid_step sc) sc.steps) (rules_of sc formed).steps).1
 
 -- ---- none is refused
 

@@ -1,8 +1,8 @@
--- What the run of a built scenario gives: the automatic steps after the listed ones.
+-- What the run of a valid scenario gives: the automatic steps after the listed ones.
 use Rattle.std.proofs.Common.{◌≡◌, ◌⊎◌, inl, inr, ℕ, zero, suc, ◌≤◌, List, [], ◌∷◌, length, true, Option, Some, None, Ok, arith}
 use Rattle.std.specs.Option.{option_map_or}
 use Rattle.tp_model.specs.Words.{Scenario, Step}
-use Rattle.tp_model.specs.Built.{is_built}
+use Rattle.tp_model.specs.Valid.{is_valid}
 use Rattle.tp_machine.specs.Machine.{Machine, after_step}
 use Rattle.tp_scenario.specs.declared.from_bytes.ScenarioError.{ScenarioError}
 use Rattle.tp_top.proofs.TrustedRun.{trusted_run}
@@ -28,8 +28,8 @@ length-automatic_from sc (suc left) cursor m =
 
 -- what comes of a scenario that was read is the answer to its input
 pub answers_reported : (old new : Option (List ℕ)) (faults faults' : ℕ) (bytes : List ℕ) (sc : Scenario) (answer : Answer)
-    → TakesAll old new bytes → is_built sc ≡ true → Reads bytes sc → IsReported sc answer → Answers old new faults faults' answer
-answers_reported old new faults faults' bytes sc (answer.Report text) taken built reads h =
+    → TakesAll old new bytes → is_valid sc ≡ true → Reads bytes sc → IsReported sc answer → Answers old new faults faults' answer
+answers_reported old new faults faults' bytes sc (answer.Report text) taken formed reads h =
     record {
       bytes = bytes;
       scenario = sc;
@@ -38,15 +38,15 @@ answers_reported old new faults faults' bytes sc (answer.Report text) taken buil
       lawful = h.lawful;
       quiet = h.quiet;
       within = length-automatic_from sc (automatic_bound sc) 0 (after_listed sc);
-      trusted = trusted_run sc built h.lawful h.quiet h.so_far h.whole.ended h.whole.commits;
+      trusted = trusted_run sc formed h.lawful h.quiet h.so_far h.whole.ended h.whole.commits;
       text_is = h.text_is;
     }
-answers_reported old new faults faults' bytes sc answer.Budget taken built reads h =
+answers_reported old new faults faults' bytes sc answer.Budget taken formed reads h =
     record { bytes = bytes; scenario = sc; taken = taken; reads = reads; lawful = h.lawful; restless = h.restless; used_up = h.used_up }
-answers_reported old new faults faults' bytes sc answer.NoMemory taken built reads h = tt
-answers_reported old new faults faults' bytes sc (answer.Refused line) taken built reads h =
+answers_reported old new faults faults' bytes sc answer.NoMemory taken formed reads h = tt
+answers_reported old new faults faults' bytes sc (answer.Refused line) taken formed reads h =
     inr (record { bytes = bytes; scenario = sc; taken = taken; reads = reads; refused = h.refused; first = h.first; line_is = h.line_is })
-answers_reported old new faults faults' bytes sc answer.ReadFault taken built reads h = absurd h
+answers_reported old new faults faults' bytes sc answer.ReadFault taken formed reads h = absurd h
 
 -- the line of a refusal is the answer to an input that is refused so
 pub answers_refused : (old new : Option (List ℕ)) (faults faults' : ℕ) (why : ScenarioError) (answer : Answer) → IsInputRefused old new why → IsRefusal why answer → Answers old new faults faults' answer

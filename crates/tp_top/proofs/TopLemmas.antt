@@ -197,7 +197,6 @@ refusal_rightly input left' notes notes' (error.Shape path) t written = taken_ri
 refusal_rightly input left' notes notes' (error.Range path) t written = taken_rightly input left' notes notes' (error.Range path) t written
 refusal_rightly input left' notes notes' (error.Unknown path) t written = taken_rightly input left' notes notes' (error.Unknown path) t written
 refusal_rightly input left' notes notes' (error.Policy path fault) t written = taken_rightly input left' notes notes' (error.Policy path fault) t written
-refusal_rightly input left' notes notes' (error.NotYet path) t written = taken_rightly input left' notes notes' (error.NotYet path) t written
 refusal_rightly input left' notes notes' error.NoMemory t written = absurd t
 
 -- the line of a listed step that is refused

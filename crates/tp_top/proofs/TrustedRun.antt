@@ -8,7 +8,7 @@ use Rattle.std.proofs.lemmas.Option.{same_Some}
 use Rattle.tp_model.specs.Words.{Actor, Scenario, Step, TxnId}
 use Rattle.tp_model.specs.Words.step
 use Rattle.tp_model.specs.Words.what
-use Rattle.tp_model.specs.Built.{is_built}
+use Rattle.tp_model.specs.Valid.{is_valid}
 use Rattle.tp_model.specs.TrustedHistory.{TrustedHistory, TrustedSoFar, have_ended}
 use Rattle.tp_machine.specs.declared.error.StepError.{StepError}
 use Rattle.tp_machine.specs.declared.error.StepError.TheVariants as error
@@ -175,8 +175,8 @@ listed_done sc m at (taken ∷ steps) exist none =
     (listed_done sc (machine_after sc m taken) (at + 1) steps exist.1 n.rest)
 
 -- the machine then has exactly these steps
-pub listed_steps : (sc : Scenario) → is_built sc ≡ true → first_refused sc ≡ None → (after_listed sc).state.steps ≡ sc.steps
-listed_steps sc built lawful = (listed_done sc (opening sc) 0 sc.steps (listed_exist sc built) lawful).steps_are
+pub listed_steps : (sc : Scenario) → is_valid sc ≡ true → first_refused sc ≡ None → (after_listed sc).state.steps ≡ sc.steps
+listed_steps sc formed lawful = (listed_done sc (opening sc) 0 sc.steps (listed_exist sc formed) lawful).steps_are
 
 -- and the undelivered mails after them were sent
 listed_sent : (sc : Scenario) (m : Machine) (at : ℕ) (steps : List Step) → refused_from sc m at steps ≡ None → AreSent m → AreSent (after_steps sc m steps)
@@ -187,24 +187,24 @@ listed_sent sc m at (taken ∷ steps) none h =
     (listed_sent sc (machine_after sc m taken) (at + 1) steps n.rest (sent_next sc m taken h))
 
 -- all steps name what exists, and are the steps of the last machine
-all_done : (sc : Scenario) → is_built sc ≡ true → first_refused sc ≡ None → AreDone sc (opening sc) (all_steps sc)
-all_done sc built lawful =
+all_done : (sc : Scenario) → is_valid sc ≡ true → first_refused sc ≡ None → AreDone sc (opening sc) (all_steps sc)
+all_done sc formed lawful =
     done_after sc (opening sc) sc.steps (automatic sc)
-    (listed_done sc (opening sc) 0 sc.steps (listed_exist sc built) lawful)
+    (listed_done sc (opening sc) 0 sc.steps (listed_exist sc formed) lawful)
     (automatic_done sc (automatic_bound sc) 0 (after_listed sc) (listed_sent sc (opening sc) 0 sc.steps lawful tt))
 
-steps_of : (sc : Scenario) → is_built sc ≡ true → first_refused sc ≡ None → (final sc).state.steps ≡ all_steps sc
-steps_of sc built lawful = ap (λ (m : Machine). m.state.steps) (final_after sc) ∙ (all_done sc built lawful).steps_are
+steps_of : (sc : Scenario) → is_valid sc ≡ true → first_refused sc ≡ None → (final sc).state.steps ≡ all_steps sc
+steps_of sc formed lawful = ap (λ (m : Machine). m.state.steps) (final_after sc) ∙ (all_done sc formed lawful).steps_are
 
--- the run of a built scenario that comes to be quiet leaves a trusted history, where its last state is trusted
-pub trusted_run : (sc : Scenario) → is_built sc ≡ true → first_refused sc ≡ None → is_quiet sc (final sc) ≡ true → IsTrustedState sc (final sc).state → HasAllEnds sc (final sc).state
+-- the run of a valid scenario that comes to be quiet leaves a trusted history, where its last state is trusted
+pub trusted_run : (sc : Scenario) → is_valid sc ≡ true → first_refused sc ≡ None → is_quiet sc (final sc) ≡ true → IsTrustedState sc (final sc).state → HasAllEnds sc (final sc).state
     → HasAllCommits sc (final sc).state → TrustedHistory sc (all_steps sc) (final sc).state.facts (ending_of sc (final sc).state)
-trusted_run sc built lawful quiet so_far ends whole =
+trusted_run sc formed lawful quiet so_far ends whole =
     let w = (final sc).state in
     let ended : have_ended sc w.facts 0 sc.txns ≡ true = ends (quiet_finished sc (final sc) quiet) in
     record {
-      so_far = subst (λ (steps : List Step). TrustedSoFar sc steps w.facts (ending_of sc w).values) (steps_of sc built lawful) so_far;
+      so_far = subst (λ (steps : List Step). TrustedSoFar sc steps w.facts (ending_of sc w).values) (steps_of sc formed lawful) so_far;
       ended = ended;
       whole = whole ended;
-      steps_are = ap length (steps_of sc built lawful);
+      steps_are = ap length (steps_of sc formed lawful);
     }

@@ -6,7 +6,7 @@ use Rattle.tp_machine.specs.declared.error.StepError.TheVariants as step
 use Rattle.tp_policy_text.specs.declared.parsing.ParseError.{ParseError}
 use Rattle.tp_policy_text.specs.declared.parsing.ParseError.TheVariants as fault
 use Rattle.tp_scenario.specs.declared.from_bytes.ScenarioError.{ScenarioError}
-use Rattle.tp_scenario.specs.declared.from_bytes.ScenarioError.TheVariants.{TooLong, BadJson, Shape, Range, Unknown, Policy, NotYet, NoMemory}
+use Rattle.tp_scenario.specs.declared.from_bytes.ScenarioError.TheVariants.{TooLong, BadJson, Shape, Range, Unknown, Policy, NoMemory}
 use Rattle.tp_top.specs.ReportText.{actor_name, admin_name, txn_name}
 
 -- what is wrong with a policy's text, and at which byte of it
@@ -25,7 +25,6 @@ refusal_line (Range path) = codes "refused range " ++ path.0 ++ codes "\n"
 refusal_line (Unknown path) = codes "refused unknown " ++ path.0 ++ codes "\n"
 refusal_line (Policy path fault) =
     codes "refused policy " ++ path.0 ++ fault_text fault ++ codes "\n"
-refusal_line (NotYet path) = codes "refused notyet " ++ path.0 ++ codes "\n"
 refusal_line NoMemory = []
 
 -- why a listed step was refused; want of memory is no refusal

@@ -8,7 +8,7 @@ use Rattle.tp_machine.specs.Machine.{Machine, after, after_steps, ending_of, ope
 use Rattle.tp_top.specs.declared.answer.Answer.{Answer}
 use Rattle.tp_top.specs.declared.answer.Answer.TheVariants as answer
 use Rattle.tp_scenario.specs.declared.from_bytes.ScenarioError.{ScenarioError}
-use Rattle.tp_scenario.specs.declared.from_bytes.ScenarioError.TheVariants.{TooLong, BadJson, Shape, Range, Unknown, Policy, NotYet, NoMemory}
+use Rattle.tp_scenario.specs.declared.from_bytes.ScenarioError.TheVariants.{TooLong, BadJson, Shape, Range, Unknown, Policy, NoMemory}
 use Rattle.tp_top.specs.Auto.{automatic_steps, bound, is_quiet}
 use Rattle.tp_top.specs.declared.listed.StepRefusal.{StepRefusal}
 use Rattle.tp_top.specs.Input.{AreRefused, Reads, TakesAll}
@@ -92,7 +92,6 @@ IsInputRefused old new (Shape path) = TakesRefused old new (Shape path)
 IsInputRefused old new (Range path) = TakesRefused old new (Range path)
 IsInputRefused old new (Unknown path) = TakesRefused old new (Unknown path)
 IsInputRefused old new (Policy path fault) = TakesRefused old new (Policy path fault)
-IsInputRefused old new (NotYet path) = TakesRefused old new (NotYet path)
 IsInputRefused old new NoMemory = ⊥
 
 -- the input is no scenario that can be run, and the line says why

@@ -1,7 +1,7 @@
 //! The answer to the word `run`, made whole before anything is written.
 ghost use Rattle.std.specs.Prelude.{◌≡◌, ◌+◌, true, false, IfOk, OnOk};
 ghost use Rattle.tp_model.specs.Agreement.{is_agreed};
-ghost use Rattle.tp_model.specs.Built as built;
+ghost use Rattle.tp_model.specs.Valid as valid;
 ghost use Rattle.tp_model.specs.Causes.{is_caused};
 ghost use Rattle.tp_model.specs.Commits.{are_lone};
 ghost use Rattle.tp_model.specs.SerialRun.{is_serial};
@@ -77,7 +77,7 @@ fn refused(alloc: Global, why: &ScenarioError) -> Answer
 
 /// Runs a scenario and prints its report.
 fn reported(alloc: Global, scenario: &Scenario) -> Answer
-    requires { built.is_built scenario.now ≡ true }
+    requires { valid.is_valid scenario.now ≡ true }
     ensures { IsReported scenario.now result }
 {
     match run(alloc, scenario) {
@@ -88,7 +88,7 @@ fn reported(alloc: Global, scenario: &Scenario) -> Answer
 
 /// Does the listed steps and then the automatic ones, and prints the report, or the line of the first step that is refused.
 fn run(alloc: Global, scenario: &Scenario) -> Result<Answer, NoMemory>
-    requires { built.is_built scenario.now ≡ true }
+    requires { valid.is_valid scenario.now ≡ true }
     ensures { IfOk result (IsReported scenario.now) }
 {
     let mut world = history::start(alloc, scenario)?;
@@ -99,7 +99,7 @@ fn run(alloc: Global, scenario: &Scenario) -> Result<Answer, NoMemory>
 
 /// The same in a scenario's world before its first step.
 fn run_in(alloc: Global, world: &mut World, scenario: &Scenario) -> Result<Answer, NoMemory>
-    requires built { built.is_built scenario.now ≡ true }
+    requires valid { valid.is_valid scenario.now ≡ true }
     requires fresh { world.old ≡ start scenario.now }
     ensures { IfOk result (IsReported scenario.now) }
 {

@@ -1,7 +1,7 @@
 //! The automatic phase: what happens by itself when no step is listed, until the world is quiet.
 ghost use Rattle.std.specs.Prelude.{◌≡◌, ◌≢◌, ◌<◌, ◌≤◌, ◌^◌, true, false, None, drop, find, length, slice_get, take, IfSome};
 ghost use Rattle.tp_model.specs.Words.step;
-ghost use Rattle.tp_model.specs.Built as built;
+ghost use Rattle.tp_model.specs.Valid as valid;
 ghost use Rattle.tp_machine.specs.Machine.{is_armed_at, is_submitted, refusal};
 ghost use Rattle.tp_machine.specs.Named.{IsStepOf, IsTxn};
 ghost use Rattle.tp_top.specs.Auto as automatic;
@@ -25,7 +25,7 @@ pub enum Drained {
 }
 
 /// The lowest transaction that is not submitted.
-#[tactic(auto, using(crate::proofs::BoundLemmas::few_txns_built))]
+#[tactic(auto, using(crate::proofs::BoundLemmas::few_txns_valid))]
 fn lowest_unsubmitted(world: &World) -> Option<TxnId>
     ensures value { result ≡ lowest_unsubmitted world.now.scenario world.now.machine.state.actors }
     ensures unsubmitted { IfSome result (λ txn.
@@ -38,7 +38,7 @@ fn lowest_unsubmitted(world: &World) -> Option<TxnId>
 }
 
 /// The first armed transaction at or after the cursor.
-#[tactic(auto, using(crate::proofs::BoundLemmas::few_txns_built))]
+#[tactic(auto, using(crate::proofs::BoundLemmas::few_txns_valid))]
 fn armed_behind(world: &World, cursor: u32) -> Option<TxnId>
     ensures value { result ≡ find (is_armed_at world.now.machine.state.actors)
         (drop cursor (automatic.txns_of world.now.scenario)) }
@@ -50,7 +50,7 @@ fn armed_behind(world: &World, cursor: u32) -> Option<TxnId>
 }
 
 /// The first armed transaction before the cursor.
-#[tactic(auto, using(crate::proofs::BoundLemmas::few_txns_built))]
+#[tactic(auto, using(crate::proofs::BoundLemmas::few_txns_valid))]
 fn armed_before(world: &World, cursor: u32) -> Option<TxnId>
     ensures value { result ≡ find (is_armed_at world.now.machine.state.actors)
         (take cursor (automatic.txns_of world.now.scenario)) }
@@ -76,7 +76,7 @@ fn first_armed(world: &World, cursor: u32) -> Option<TxnId>
 }
 
 /// The lowest server that is down.
-#[tactic(auto, using(crate::proofs::BoundLemmas::few_servers_built))]
+#[tactic(auto, using(crate::proofs::BoundLemmas::few_servers_valid))]
 fn server_down(world: &World) -> Option<ServerId>
     ensures value { result
         ≡ automatic.server_down world.now.scenario world.now.machine.state.actors }
@@ -87,7 +87,7 @@ fn server_down(world: &World) -> Option<ServerId>
 }
 
 /// The lowest coordinator that is down.
-#[tactic(auto, using(crate::proofs::BoundLemmas::few_txns_built))]
+#[tactic(auto, using(crate::proofs::BoundLemmas::few_txns_valid))]
 fn coordinator_down(world: &World) -> Option<TxnId>
     ensures value { result
         ≡ automatic.coordinator_down world.now.scenario world.now.machine.state.actors }
@@ -162,9 +162,9 @@ fn keeps_up(taken: &Step) -> bool
 }
 
 /// Where timers are looked for after a step of a scenario.
-#[tactic(auto, using(crate::proofs::BoundLemmas::few_txns_built))]
+#[tactic(auto, using(crate::proofs::BoundLemmas::few_txns_valid))]
 fn cursor_after(scenario: &Scenario, taken: &Step, cursor: u32) -> u32
-    requires built { built.is_built scenario.now ≡ true }
+    requires valid { valid.is_valid scenario.now ≡ true }
     requires exists { IsStepOf scenario.now taken.now }
     ensures { result ≡ automatic.cursor_after taken.now cursor }
 {
@@ -244,9 +244,9 @@ fn bound_by(txns: u64, queries: u64, rounds: u64, servers: u64, undelivered: u64
 }
 
 /// How many automatic steps a run allows from a world with so many undelivered mails on.
-#[tactic(auto, using(crate::proofs::BoundLemmas::few_servers_built, crate::proofs::BoundLemmas::few_txns_built, crate::proofs::BoundLemmas::most_queries_built, crate::proofs::BoundLemmas::most_rounds_built))]
+#[tactic(auto, using(crate::proofs::BoundLemmas::few_servers_valid, crate::proofs::BoundLemmas::few_txns_valid, crate::proofs::BoundLemmas::most_queries_valid, crate::proofs::BoundLemmas::most_rounds_valid))]
 pub fn bound(scenario: &Scenario, undelivered: u64) -> u64
-    requires built { built.is_built scenario.now ≡ true }
+    requires valid { valid.is_valid scenario.now ≡ true }
     requires few { undelivered < 2 ^ 32 }
     ensures { result ≡ automatic.bound scenario.now undelivered }
 {

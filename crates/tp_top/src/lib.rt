@@ -9,7 +9,7 @@
 //! - Each status has its number (`Status::number`)
 //! - The next step is the defined one, or None exactly where the world is quiet: a delivery, a submission, or the
 //!   timer of the first armed transaction from the cursor on; it is one that `World::step` takes and does not
-//!   refuse (`auto::next`: `value`, `built`, `ids`, `allowed`)
+//!   refuse (`auto::next`: `value`, `valid`, `ids`, `allowed`)
 //! - A drain does exactly the automatic steps of the world, with the cursor at 0 at first, and at most as many as
 //!   its budget (`auto::drain`: `steps`)
 //! - It answers Quiet only where the world is quiet, and Budget only where it did the whole budget and the

@@ -45,7 +45,6 @@ pub(crate) fn refusal_line(alloc: Global, why: &ScenarioError) -> Result<Text, N
         ScenarioError::Range { path } => line_at(alloc, b"refused range ", path),
         ScenarioError::Unknown { path } => line_at(alloc, b"refused unknown ", path),
         ScenarioError::Policy { path, fault } => policy_line(alloc, path, *fault),
-        ScenarioError::NotYet { path } => line_at(alloc, b"refused notyet ", path),
         ScenarioError::NoMemory => line_of(alloc, b""),
     }
 }

@@ -16,13 +16,9 @@ sends state letters = record {
   reaction = record { append = None; letters = letters };
 }
 
--- nothing is done, for good
+-- the mail is ignored: the state stays, and nothing is logged or sent
 abbrev pub ignores : {S : Type 0} → S → Effect S
 ignores state = sends state []
-
--- a row that is not built: nothing is done so far
-abbrev pub unbuilt : {S : Type 0} → S → Effect S
-unbuilt state = sends state []
 
 -- a record is forced to the log, and then these letters are sent
 abbrev pub logs : {S : Type 0} → S → Record → List Letter → Effect S

@@ -46,7 +46,7 @@ pub use mail::{
 pub use name::{Name, Text, is_name};
 pub use number::number_of;
 pub use policy::{Action, Cond, Op, Pattern, Policy, Rule, Value};
-pub use reaction::{forced_and_sent, ignored, nothing, sent_alone, unbuilt};
+pub use reaction::{forced_and_sent, ignored, nothing, sent_alone};
 pub use records::{
     Cause, CommitRecord, Decided, Decision, Deed, Denied, Died, Instance, Met, Newer, No,
     OutOfRange, Outcome, Prepared, Reading, Record, Settled, Staple, Told, Verdict,

@@ -16,15 +16,8 @@ pub fn nothing(alloc: Global) -> Reaction
     }
 }
 
-/// Nothing is done, for good.
+/// The mail is ignored: nothing is logged or sent.
 pub fn ignored(alloc: Global) -> Reaction
-    ensures { result ≡ record { append = None; letters = [] } }
-{
-    nothing(alloc)
-}
-
-/// A row that is not built: nothing is done so far.
-pub fn unbuilt(alloc: Global) -> Reaction
     ensures { result ≡ record { append = None; letters = [] } }
 {
     nothing(alloc)

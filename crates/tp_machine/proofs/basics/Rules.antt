@@ -1,4 +1,4 @@
--- The policies of a scenario that is built have few rules, so a certificate can count them.
+-- The policies of a valid scenario have few rules, so a certificate can count them.
 use Rattle.std.proofs.Common.{List, None, Option, Some, arith, length, nat_le, option_and_then, refl, slice_get, suc, true, zero, ℕ, ◌≡◌, ◌≤◌}
 use Rattle.std.proofs.lemmas.Bool.Decides.{nat_tests}
 use Rattle.std.specs.List.{list_all}
@@ -6,9 +6,8 @@ use Rattle.tp_types.specs.Each.{Each}
 use Rattle.tp_types.proofs.EachLemmas.{each_from_all, each_get}
 use Rattle.tp_types.proofs.ListLemmas.{three_parts}
 use Rattle.tp_model.proofs.RuleLemmas as rules
-use Rattle.tp_model.specs.Built.{is_built}
 use Rattle.tp_model.specs.Limits.{has_count, is_from_to}
-use Rattle.tp_model.specs.Valid.{are_distinct, is_valid_admin, is_valid_policy, same_admin_name}
+use Rattle.tp_model.specs.Valid.{are_distinct, is_valid, is_valid_admin, is_valid_policy, same_admin_name}
 use Rattle.tp_model.specs.Authorisation.{library_version, version_of}
 use Rattle.tp_model.specs.Words.{Admin, Policy, Scenario}
 use Rattle.tp_server.specs.Verdicts.{HasFewRules}
@@ -30,9 +29,9 @@ few_of admins admin version (Some declared) policy all found_is e =
     few_in_library declared.library version policy parts.1 e
 
 -- a certificate counts the rules of each policy
-pub few_rules : (sc : Scenario) → is_built sc ≡ true → HasFewRules sc
-few_rules sc built admin version policy e =
-    let kept = rules.valid_built sc built in
+pub few_rules : (sc : Scenario) → is_valid sc ≡ true → HasFewRules sc
+few_rules sc formed admin version policy e =
+    let kept = rules.rules_of sc formed in
     let admins = three_parts (has_count 1 16 sc.admins) (list_all is_valid_admin sc.admins) (are_distinct same_admin_name sc.admins) kept.admins in
     let few = few_of sc.admins admin.0 version.0 (slice_get sc.admins admin.0) policy (each_from_all is_valid_admin sc.admins admins.1) refl e in
     omega (arith, few)

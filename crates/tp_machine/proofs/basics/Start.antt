@@ -1,7 +1,7 @@
 -- What is so of a world before its first step.
 use Rattle.std.proofs.Common.{◌≡◌, [], true, false, refl, sym, subst, ap, ◌∙◌}
 use Rattle.tp_model.specs.Words.{Scenario}
-use Rattle.tp_model.specs.Built.{is_built}
+use Rattle.tp_model.specs.Valid.{is_valid}
 use Rattle.tp_machine.specs.declared.actors.Actors.{Actors}
 use Rattle.tp_machine.specs.declared.history.History.{History}
 use Rattle.tp_machine.specs.Fits.{AllFitLogs}
@@ -16,10 +16,10 @@ pub machine_opened : (sc : Scenario) (actors : Actors) (history : History) → a
     → history.steps ≡ [] → history.facts ≡ [] → history.mails ≡ [] → history.pending ≡ [] → machine_of actors history ≡ opening sc
 machine_opened sc actors history a s f m p = same_machine _ _ _ _ (same_state _ _ _ _ _ _ _ _ a m f s) (ap (marked 0) p)
 
-pub world_at_start : (sc : Scenario) (own : Scenario) (machine : Machine) → is_built sc ≡ true → AllFitLogs sc → own ≡ sc → machine ≡ opening sc
+pub world_at_start : (sc : Scenario) (own : Scenario) (machine : Machine) → is_valid sc ≡ true → AllFitLogs sc → own ≡ sc → machine ≡ opening sc
     → IsWorld (record { scenario = own; given_up = false; machine = machine })
-world_at_start sc own machine built fit same opened =
+world_at_start sc own machine formed fit same opened =
     let whole : ◌≡◌ {A = WorldView} (record { scenario = own; given_up = false; machine = machine }) (start sc) =
     ap (λ (x : Scenario). record { scenario = x; given_up = false; machine = machine }) same
     ∙ ap (λ (x : Machine). record { scenario = sc; given_up = false; machine = x }) opened in
-    subst IsWorld (sym whole) (record { built = built; fit = fit; whole = all_opened sc; named = tt; told = refl; reached = λ _. refl })
+    subst IsWorld (sym whole) (record { valid = formed; fit = fit; whole = all_opened sc; named = tt; told = refl; reached = λ _. refl })

@@ -12,7 +12,6 @@ use Rattle.tp_coord.specs.declared.coordinator.Phase.{Phase}
 use Rattle.tp_coord.specs.declared.coordinator.Phase.TheVariants as phase
 use Rattle.tp_coord.specs.declared.coordinator.Span.{Span}
 use Rattle.tp_coord.specs.declared.coordinator.Span.TheVariants as span
-use Rattle.tp_round.specs.Judge.{is_awaited}
 use Rattle.tp_round.specs.declared.round.Round.{Round}
 use Rattle.tp_scheme.proofs.BelowLemmas.{finds_the_first_below}
 use Rattle.tp_scheme.specs.declared.moves.Point.{Point}

@@ -1,15 +1,15 @@
 -- What a server knows of versions once it has learnt some, and which version it evaluates.
 use Rattle.std.proofs.Common.{List, None, Option, Some, [], ap, arith, find, option_map, refl, slice_get, slice_set, subst, suc, sym, unwrap_or, zero, ℕ, ◌∷◌, ◌≡◌, ◌≤◌}
 use Rattle.std.proofs.lemmas.Bool.{eqb-true}
-use Rattle.tp_model.specs.Words.{AdminId, Deed, Scenario, Staple, Transaction, Version}
-use Rattle.tp_round.specs.Laws.{is_for, want_number, wanted_of}
+use Rattle.tp_model.specs.Words.{AdminId, Version}
+use Rattle.tp_round.specs.Laws.{is_for, want_number}
 use Rattle.tp_store.specs.Contents.{Contents}
 use Rattle.tp_store.specs.Rule.{greater, newest_in, with_version}
 use Rattle.tp_runs.proofs.basics.Ids.{admin_number}
 use Rattle.tp_types.proofs.EachLemmas.{each_found, found_passes}
 use Rattle.tp_types.specs.Each.{Each}
 use Rattle.tp_server.specs.State.{Server}
-use Rattle.tp_server.specs.Verdicts.{admin_of, verdict_on, version_known, version_or, version_used, with_versions}
+use Rattle.tp_server.specs.Verdicts.{version_known, version_or, version_used, with_versions}
 
 -- what holds of the version at a place, and of one that is written there, holds of the one that then stands there
 pub set_keeps : (P : Version → Type 0) (versions : List Version) (n m : ℕ) (new default : Version) → P (unwrap_or (slice_get versions m) default) → (n ≡ m → P new)

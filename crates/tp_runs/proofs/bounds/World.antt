@@ -26,7 +26,7 @@ use Rattle.tp_runs.proofs.ids.Queries.{have_homes}
 use Rattle.tp_runs.proofs.ids.Valid.{IsValid}
 use Rattle.tp_runs.proofs.basics.Found.{of_some}
 use Rattle.tp_runs.proofs.known.World.{Pairs}
-use Rattle.tp_runs.proofs.deeds.Built.{opening_in_range}
+use Rattle.tp_runs.proofs.deeds.Opening.{opening_in_range}
 use Rattle.tp_recover.specs.Log.{values_by}
 use Rattle.tp_runs.proofs.serial_data.Rows.{deeds_in, values_length}
 use Rattle.tp_runs.proofs.serial_data.Steps.{received_clear, server_brings}

@@ -1,7 +1,7 @@
 -- Epochs, what a coordinator keeps: of each server at which a query of its transaction ran, one that has not decided keeps an epoch, and
 -- all that was asked of a server is what it keeps. And its row on the answer to a query, which is where it learns an epoch.
 use Rattle.std.specs.List.{list_any}
-use Rattle.std.proofs.Common.{Bool, IfSome, List, None, Option, Some, [], ap, arith, false, if◌then◌else◌, is_none, is_some, length, not, option_and_then, option_map, refl, slice_get, slice_set, subst, suc, sym, take, true, zero, ℕ, ℤ, ◌+◌, ◌-◌, ◌<◌, ◌==◌, ◌||◌, ◌∙◌, ◌∷◌, ◌≡◌, ◌≤◌}
+use Rattle.std.proofs.Common.{Bool, IfSome, List, None, Option, Some, [], ap, arith, false, if◌then◌else◌, is_none, is_some, length, not, option_and_then, option_map, refl, slice_get, slice_set, subst, suc, sym, take, true, zero, ℕ, ℤ, ◌+◌, ◌<◌, ◌==◌, ◌||◌, ◌∙◌, ◌∷◌, ◌≡◌, ◌≤◌}
 use Rattle.std.proofs.lemmas.Bool.{eqb-true, not-true}
 use Rattle.std.proofs.lemmas.List.{length-set}
 use Rattle.std.proofs.lemmas.Option.{same_Some, slice_get_past, slice_get_within}

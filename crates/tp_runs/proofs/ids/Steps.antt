@@ -1,6 +1,6 @@
 -- The world is sound before the first step, and each step keeps it sound.
 use Rattle.std.proofs.Common.{List, None, [], arith, length, slice_set, subst, sym, true, ℕ, ◌∷◌, ◌≡◌}
-use Rattle.tp_model.specs.Built.{is_built}
+use Rattle.tp_model.specs.Valid.{is_valid}
 use Rattle.tp_model.specs.Words.actor
 use Rattle.tp_model.specs.Words.step
 use Rattle.tp_model.specs.Words.what
@@ -8,7 +8,7 @@ use Rattle.tp_model.specs.Words.{Actor, Mail, Scenario, ServerId, Step, TxnId, W
 use Rattle.tp_runs.proofs.basics.Facts.{each_new_fact, each_new_mail}
 use Rattle.tp_types.proofs.EachLemmas.{at_made, at_set, each_append, each_get}
 use Rattle.tp_runs.proofs.ids.Acts.{IsSoundAct, authority_sends_sound, coordinator_begun_sound, coordinator_idle_sound, coordinator_receipt_sound, coordinator_repeats_sound, master_sends_sound, none_sound, published_exists, published_sound, pushes_sound, revoked_sound, server_opening_sound, server_receipt_sound}
-use Rattle.tp_runs.proofs.ids.Valid.{IsValid, valid_built}
+use Rattle.tp_runs.proofs.ids.Valid.{IsValid, valid_of}
 use Rattle.tp_runs.proofs.walks.Steps.{Cases, KeepsUp, SaysIdle, WaitRightly, WasSent, machine_after_by}
 use Rattle.tp_machine.specs.Machine.{Machine, Move, State, facts_of, idle_move, machine_after, mails_of, opened_part, opening_state, refusal, state_after}
 use Rattle.tp_machine.specs.Parts.{Part}
@@ -128,9 +128,9 @@ state_after_sound sc w taken move h t =
 -- ---- for the world
 
 -- the world is sound before the first step
-pub sound_opening : (sc : Scenario) → is_built sc ≡ true → IsSound sc (opening_state sc)
-sound_opening sc built =
-    let valid = valid_built sc built in
+pub sound_opening : (sc : Scenario) → is_valid sc ≡ true → IsSound sc (opening_state sc)
+sound_opening sc formed =
+    let valid = valid_of sc formed in
     record {
       actors_are = record {
         servers = λ n part e. subst (λ (k : ℕ). IsSoundServerPart sc (record { 0 = k }) part) (omega arith)
@@ -147,8 +147,8 @@ sound_opening sc built =
     }
 
 -- a step that names what exists keeps the world sound
-pub sound_next : (sc : Scenario) (m : Machine) (taken : Step) → is_built sc ≡ true → IsStepOf sc taken → KeepsUp taken → refusal m.state taken ≡ None → length m.state.actors.coordinators ≡ length sc.txns
+pub sound_next : (sc : Scenario) (m : Machine) (taken : Step) → is_valid sc ≡ true → IsStepOf sc taken → KeepsUp taken → refusal m.state taken ≡ None → length m.state.actors.coordinators ≡ length sc.txns
     → WaitRightly sc m.state → IsSound sc m.state → IsSound sc (machine_after sc m taken).state
-sound_next sc m taken built exists stays allowed count rightly h =
-    machine_after_by sc m (λ taken move. IsSoundMove sc move) (IsSound sc) (sound_cases sc m.state (valid_built sc built) rightly h) count
+sound_next sc m taken formed exists stays allowed count rightly h =
+    machine_after_by sc m (λ taken move. IsSoundMove sc move) (IsSound sc) (sound_cases sc m.state (valid_of sc formed) rightly h) count
     (λ taken move t. state_after_sound sc m.state taken move h t) taken exists stays allowed

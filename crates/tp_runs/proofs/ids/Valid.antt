@@ -4,9 +4,8 @@ use Rattle.std.proofs.lemmas.Bool.Decides.{nat_tests}
 use Rattle.std.proofs.lemmas.Bool.{and_parts, ltb-true}
 use Rattle.std.specs.List.{list_all}
 use Rattle.tp_model.proofs.RuleLemmas as rules
-use Rattle.tp_model.specs.Built.{is_built}
 use Rattle.tp_model.specs.Limits.{has_count, is_between, is_from_to, is_value}
-use Rattle.tp_model.specs.Valid.{are_by_server, are_distinct, are_known, are_valid_from, has_valid_bounds, has_valid_creds, has_valid_range, is_admin, is_cred, is_known, is_server, is_valid_admin, is_valid_cred, is_valid_item, is_valid_policy, is_valid_server, is_valid_txn, owned_from, same_admin_name, same_cred_name, same_item_name, same_server_name, same_txn_name}
+use Rattle.tp_model.specs.Valid.{are_by_server, are_distinct, are_known, are_valid_from, has_valid_bounds, has_valid_creds, has_valid_range, is_admin, is_cred, is_known, is_server, is_valid, is_valid_admin, is_valid_cred, is_valid_item, is_valid_policy, is_valid_server, is_valid_txn, owned_from, same_admin_name, same_cred_name, same_item_name, same_server_name, same_txn_name}
 use Rattle.tp_model.specs.Ids.{same_cred, same_item}
 use Rattle.std.specs.Cmp.Lexicographic.{pointwise}
 use Rattle.tp_model.specs.Words.{Admin, CredId, Item, Scenario, ServerDecl, Transaction, Version}
@@ -100,10 +99,10 @@ creds_valid sc txn e =
 
 -- ---- the scenario
 
--- what is built is valid
-pub valid_built : (sc : Scenario) → is_built sc ≡ true → IsValid sc
-valid_built sc built =
-    let kept = rules.valid_built sc built in
+-- each rule that is taken here is one of a valid scenario
+pub valid_of : (sc : Scenario) → is_valid sc ≡ true → IsValid sc
+valid_of sc formed =
+    let kept = rules.rules_of sc formed in
     let admins = three_parts (has_count 1 16 sc.admins) (list_all is_valid_admin sc.admins) (are_distinct same_admin_name sc.admins) kept.admins in
     let opening : Each (λ (admin : Admin). IsVersionOf admin admin.opening) sc.admins =
     each_as (λ (admin : Admin). is_valid_admin admin ≡ true) (λ (admin : Admin). IsVersionOf admin admin.opening) opening_valid sc.admins (each_from_all is_valid_admin sc.admins admins.1) in

@@ -5,7 +5,7 @@ use Rattle.std.proofs.lemmas.Bool.{eqb-true}
 use Rattle.std.proofs.lemmas.List.{length-replicate}
 use Rattle.std.proofs.lemmas.Option.{same_Some, slice_get_within}
 use Rattle.tp_model.proofs.RuleLemmas as rules
-use Rattle.tp_model.specs.Built.{is_built}
+use Rattle.tp_model.specs.Valid.{is_valid}
 use Rattle.tp_model.specs.Facts.{outcome_of}
 use Rattle.tp_model.specs.Ids.{same_txn}
 use Rattle.tp_model.specs.Words.actor
@@ -25,7 +25,7 @@ use Rattle.tp_runs.proofs.epochs.Kept.{CoordinatorKeeps}
 use Rattle.tp_runs.proofs.epochs.Server.{ServerMade}
 use Rattle.tp_runs.proofs.epochs.World.{Epochs, made_from_zero}
 use Rattle.tp_runs.proofs.ids.Queries.{have_homes}
-use Rattle.tp_runs.proofs.ids.Valid.{IsValid, valid_built}
+use Rattle.tp_runs.proofs.ids.Valid.{IsValid, valid_of}
 use Rattle.tp_runs.proofs.pairs.Actors.{BodyPairs, DoneFrom, LetterPairs, PrepareAt, QueryAt, ValidateAt, VerdictsFrom, VoteFrom, asker_at, asker_by, asker_in, asker_of, asker_up, body_stays, pair_at, pair_by, pair_of, pair_up, site_of}
 use Rattle.tp_runs.proofs.pairs.CoordinatorRows.{AnswerPairs, AskPairs, CoordinatorActsPairs, CoordinatorPaired, PhaseNames, PhaseNumbered, PrepareTo, QueryTo, RowAsks, SpanNumbered, ValidateTo, coordinator_row_asks, repeats_ask, submit_row_asks}
 use Rattle.tp_runs.proofs.pairs.Fits.{AskerFits, DoneFits, Fits, PrepareFits, QueryFits, ValidateFits, VerdictsFits}
@@ -479,10 +479,10 @@ receipt_by_coordinator_in_known sc w valid homes few sound a epochs trusts h n m
     (coordinator_row_asks sc d.0 (pair_at w.actors txn) c mail valid homes (coordinator_paired sc w d.0 txn part c few sound a epochs trusts h up d.1)
     (answer_pairs sc w d.0 txn mail.letter.from mail.letter.body d.1 (mail_sound sc w n mail (actor.Coordinator txn) sound sent) said)))
 
-begun_pairs : (sc : Scenario) (w : State) → is_built sc ≡ true → AreFew sc → IsSound sc w → Agrees sc w → Epochs sc w → Trusts sc w → Pairs sc w → (txn : TxnId) (part : Part Coordinator) (c : Coordinator) → IsTxn sc txn
+begun_pairs : (sc : Scenario) (w : State) → is_valid sc ≡ true → AreFew sc → IsSound sc w → Agrees sc w → Epochs sc w → Trusts sc w → Pairs sc w → (txn : TxnId) (part : Part Coordinator) (c : Coordinator) → IsTxn sc txn
     → IsCoordinatorUp w txn part c → is_part_submitted (Some c) ≡ false
     → MovePairs sc w (coordinator_move w.actors txn (acts_by coordinator_fact (what.Submitted txn ∷ []) part.log (with_age (submit_row sc c) (length w.steps))))
-begun_pairs sc w built few sound a epochs trusts h txn part c exists up new =
+begun_pairs sc w formed few sound a epochs trusts h txn part c exists up new =
     let effect = with_age (submit_row sc c) (length w.steps) in
     let d = declared_by sc txn exists in
     let same = (submission_unforced sc c (length w.steps)).same_txn ∙ own_txn sc w txn part c sound up.found up.up in
@@ -517,8 +517,8 @@ newest_plain_in_known : (sc : Scenario) (held : Master) (said : Body) → Each (
 newest_plain_in_known sc held (body.Probe probe) = (λ P. tt, tt)
 newest_plain_in_known sc held _ = tt
 
-pairs_cases : (sc : Scenario) (w : State) → is_built sc ≡ true → IsValid sc → AreFew sc → WaitRightly sc w → IsSound sc w → Agrees sc w → Epochs sc w → Trusts sc w → Pairs sc w → Cases sc w (λ taken move. MovePairs sc w move)
-pairs_cases sc w built valid few rightly sound a epochs trusts h =
+pairs_cases : (sc : Scenario) (w : State) → is_valid sc ≡ true → IsValid sc → AreFew sc → WaitRightly sc w → IsSound sc w → Agrees sc w → Epochs sc w → Trusts sc w → Pairs sc w → Cases sc w (λ taken move. MovePairs sc w move)
+pairs_cases sc w formed valid few rightly sound a epochs trusts h =
     record {
       idle = λ taken happened e. still_pairs sc w happened [] w.actors h refl refl tt;
       server_received = λ n mail at part s sent up. receipt_by_server_in_known sc w rightly sound a epochs h n mail at part s sent up;
@@ -530,16 +530,16 @@ pairs_cases sc w built valid few rightly sound a epochs trusts h =
       pushed = λ admin server exists there. still_pairs sc w [] (master.pushes w.actors.master admin server).reaction.letters w.actors h refl refl (λ P. tt, tt);
       ticked = λ by. still_pairs sc w (what.Ticked by ∷ []) [] (record w.actors { authority = office.after_tick by w.actors.authority }) h refl refl tt;
       revoked = λ cred exists. still_pairs sc w (what.Revoked cred ∷ []) [] (record w.actors { authority = office.after_revocation cred w.actors.authority }) h refl refl tt;
-      begun = λ txn part c exists up new. begun_pairs sc w built few sound a epochs trusts h txn part c exists up new;
+      begun = λ txn part c exists up new. begun_pairs sc w formed few sound a epochs trusts h txn part c exists up new;
       timed = λ txn part c exists up begun. timed_pairs sc w few sound a epochs trusts h txn part c exists up;
     }
 
 -- a step that is not refused keeps what is said of deeds and epochs
-pub pairs_next : (sc : Scenario) (m : Machine) (taken : Step) → is_built sc ≡ true → IsStepOf sc taken → KeepsUp taken → refusal m.state taken ≡ None → WaitRightly sc m.state → IsSound sc m.state → Agrees sc m.state → Epochs sc m.state → Trusts sc m.state
+pub pairs_next : (sc : Scenario) (m : Machine) (taken : Step) → is_valid sc ≡ true → IsStepOf sc taken → KeepsUp taken → refusal m.state taken ≡ None → WaitRightly sc m.state → IsSound sc m.state → Agrees sc m.state → Epochs sc m.state → Trusts sc m.state
     → Pairs sc m.state → Pairs sc (machine_after sc m taken).state
-pairs_next sc m taken built exists stays allowed rightly sound a epochs trusts h =
+pairs_next sc m taken formed exists stays allowed rightly sound a epochs trusts h =
     machine_after_by sc m (λ taken move. MovePairs sc m.state move) (Pairs sc)
-    (pairs_cases sc m.state built (valid_built sc built) (few_queries sc (rules.valid_built sc built)) rightly sound a epochs trusts h) a.coordinator_count
+    (pairs_cases sc m.state formed (valid_of sc formed) (few_queries sc (rules.rules_of sc formed)) rightly sound a epochs trusts h) a.coordinator_count
     (λ taken move t. state_after_pairs sc m.state taken move h t) taken exists stays allowed
 
 -- ---- before the first step

@@ -1,5 +1,5 @@
 -- How many letters an act sends, the rows: a server sends one, and one for each query that waited and runs; and a coordinator one, or one to each of its servers or of those that it awaits.
-use Rattle.std.proofs.Common.{Bool, List, None, Option, Some, [], ap, arith, false, filter, is_some, length, map, not, refl, slice_get, slice_set, subst, suc, zero, ℕ, ℤ, ⊎_elim, ◌+◌, ◌==◌, ◌∙◌, ◌∷◌, ◌≡◌, ◌≤◌}
+use Rattle.std.proofs.Common.{List, None, Option, Some, [], ap, arith, false, filter, is_some, length, map, not, refl, slice_get, slice_set, subst, suc, zero, ℕ, ℤ, ⊎_elim, ◌+◌, ◌==◌, ◌∙◌, ◌∷◌, ◌≡◌, ◌≤◌}
 use Rattle.std.proofs.lemmas.List.{length-map, length_push}
 use Rattle.std.specs.Option.{option_flatten}
 use Rattle.tp_types.proofs.EachLemmas.{by_cond}

@@ -5,12 +5,12 @@ use Rattle.std.specs.Option.{option_map_or}
 use Rattle.std.proofs.Common.{IfSome, List, None, Option, Some, [], arith, ap, if◌then◌else◌, is_some, length, refl, replicate, slice_get, slice_set, subst, suc, sym, zero, ℕ, ◌*◌, ◌+◌, ◌≡◌, ◌≤◌, ◌∷◌, true}
 use Rattle.std.proofs.lemmas.List.{length-append}
 use Rattle.std.proofs.lemmas.Option.{same_Some}
-use Rattle.tp_model.specs.Built.{is_built}
+use Rattle.tp_model.specs.Valid.{is_valid}
 use Rattle.tp_model.specs.Queries.{is_at_server, servers_from, servers_of}
 use Rattle.tp_model.specs.Words.body
 use Rattle.tp_model.specs.Words.what
 use Rattle.tp_model.specs.Words.{Body, Letter, Mail, Query, Record, Scenario, ServerId, Step, Transaction, TxnId, What}
-use Rattle.tp_model.proofs.RuleLemmas.{few_servers, valid_built}
+use Rattle.tp_model.proofs.RuleLemmas.{few_servers, rules_of}
 use Rattle.tp_runs.proofs.agreement.Steps.{coordinator_agrees}
 use Rattle.tp_runs.proofs.agreement.World.{Agrees}
 use Rattle.tp_machine.proofs.basics.Flags.{length_mails_of}
@@ -90,17 +90,17 @@ from_few sc queries low (suc left) =
     let later = from_few sc queries (low + 1) left in
     by_cond (λ (servers : List ServerId). length servers ≤ suc left) (list_any (is_at_server sc low) queries) (λ here. omega (arith, later)) (λ other. omega (arith, later))
 
-pub servers_few : (sc : Scenario) (txn : TxnId) → is_built sc ≡ true → length (servers_at sc txn) ≤ 16
-servers_few sc txn built = among (slice_get sc.txns txn.0)
+pub servers_few : (sc : Scenario) (txn : TxnId) → is_valid sc ≡ true → length (servers_at sc txn) ≤ 16
+servers_few sc txn formed = among (slice_get sc.txns txn.0)
   where
     among : (declared : Option Transaction) → length (option_map_or (servers_of sc) declared []) ≤ 16
     among None = omega arith
-    among (Some declared) = omega (arith, from_few sc declared.queries 0 (length sc.servers), few_servers sc (valid_built sc built))
+    among (Some declared) = omega (arith, from_few sc declared.queries 0 (length sc.servers), few_servers sc (rules_of sc formed))
 
 -- so are those of a coordinator that is up
-own_servers_few : (sc : Scenario) (w : State) (txn : TxnId) (part : Part Coordinator) (c : Coordinator) → is_built sc ≡ true → Agrees sc w → IsCoordinatorUp w txn part c → length c.servers ≤ 16
-own_servers_few sc w txn part c built a up =
-    subst (λ (servers : List ServerId). length servers ≤ 16) (sym (coordinator_agrees sc w txn part c a up).agrees.servers) (servers_few sc c.txn built)
+own_servers_few : (sc : Scenario) (w : State) (txn : TxnId) (part : Part Coordinator) (c : Coordinator) → is_valid sc ≡ true → Agrees sc w → IsCoordinatorUp w txn part c → length c.servers ≤ 16
+own_servers_few sc w txn part c formed a up =
+    subst (λ (servers : List ServerId). length servers ≤ 16) (sym (coordinator_agrees sc w txn part c a up).agrees.servers) (servers_few sc c.txn formed)
 
 own_awaits : (w : State) (txn : TxnId) (part : Part Coordinator) (c : Coordinator) → FewMails w → IsCoordinatorUp w txn part c → AwaitsFew 16 c
 own_awaits w txn part c h up = subst (λ (u : Option Coordinator). IfSome u (AwaitsFew 16)) up.up (h.awaits txn.0 part up.found)
@@ -149,14 +149,14 @@ master_sends held _ = omega arith
 
 -- ---- steps
 
-few_cases : (sc : Scenario) (w : State) → is_built sc ≡ true → WaitRightly sc w → Agrees sc w → FewMails w → Cases sc w (λ taken move. MoveFew w move)
-few_cases sc w built rightly a h =
+few_cases : (sc : Scenario) (w : State) → is_valid sc ≡ true → WaitRightly sc w → Agrees sc w → FewMails w → Cases sc w (λ taken move. MoveFew w move)
+few_cases sc w formed rightly a h =
     record {
       idle = λ taken happened e. record { awaits = h.awaits; letters = omega arith };
       server_received = λ n mail at part s sent up. receipt_few sc w at part s mail rightly h up;
       coordinator_received = λ n mail txn part c sent up.
           let effect = coordinator_row sc c mail in
-          let few = coordinator_row_sends 16 sc c mail (omega arith) (own_servers_few sc w txn part c built a up) (own_awaits w txn part c h up) in
+          let few = coordinator_row_sends 16 sc c mail (omega arith) (own_servers_few sc w txn part c formed a up) (own_awaits w txn part c h up) in
           coordinator_acts_few w txn part (Some effect.state) [] effect.reaction.append effect.reaction.letters h few.awaits (omega (arith, few.letters));
       authority_told = λ n mail sent. record { awaits = h.awaits; letters = omega (arith, authority_sends w.actors.authority mail.letter.body) };
       master_told = λ n mail sent. record { awaits = h.awaits; letters = omega (arith, master_sends w.actors.master mail.letter.body) };
@@ -172,9 +172,9 @@ few_cases sc w built rightly a h =
     }
 
 -- a step that is not refused sends few mails
-pub few_next : (sc : Scenario) (m : Machine) (taken : Step) → is_built sc ≡ true → IsStepOf sc taken → KeepsUp taken → refusal m.state taken ≡ None → WaitRightly sc m.state → Agrees sc m.state → FewMails m.state → FewMails (machine_after sc m taken).state
-few_next sc m taken built exists stays allowed rightly a h =
-    machine_after_by sc m (λ taken_is move. MoveFew m.state move) FewMails (few_cases sc m.state built rightly a h) a.coordinator_count
+pub few_next : (sc : Scenario) (m : Machine) (taken : Step) → is_valid sc ≡ true → IsStepOf sc taken → KeepsUp taken → refusal m.state taken ≡ None → WaitRightly sc m.state → Agrees sc m.state → FewMails m.state → FewMails (machine_after sc m taken).state
+few_next sc m taken formed exists stays allowed rightly a h =
+    machine_after_by sc m (λ taken_is move. MoveFew m.state move) FewMails (few_cases sc m.state formed rightly a h) a.coordinator_count
     (λ taken_is move t. state_after_few m.state taken_is move h t) taken exists stays allowed
 
 -- where no query waits at each server none does

@@ -25,7 +25,7 @@ use Rattle.tp_runs.proofs.pairs.Rises.{rises}
 use Rattle.tp_runs.proofs.pairs.ServerRows.{same_answer}
 use Rattle.tp_runs.proofs.known.World.{Pairs, declared_by, pair_of_up}
 use Rattle.tp_runs.proofs.serial_data.Clear.{clear_of_others, commit_ready}
-use Rattle.tp_runs.proofs.deeds.Built.{opening_in_range}
+use Rattle.tp_runs.proofs.deeds.Opening.{opening_in_range}
 use Rattle.tp_runs.proofs.serial_data.Deciding.{RecordUp, coordinator_acts_serial, coordinator_row_own, record_up}
 use Rattle.tp_runs.proofs.deeds.Ranges.{AreTested}
 use Rattle.tp_runs.proofs.deeds.Reads.{ReadsFrom}

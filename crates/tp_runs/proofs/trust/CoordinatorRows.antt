@@ -1,8 +1,7 @@
 -- Trust, the coordinator's rows: on receipt of a mail, at the submission, and at a timer.
-use Rattle.std.proofs.Common.{Bool, IfSome, List, None, Option, Some, [], ap, arith, false, nat_le, option_and_then, refl, slice_get, subst, sym, true, ℕ, if◌then◌else◌, ◌+◌, ◌-◌, ◌==◌, ◌∙◌, ◌∷◌, ◌≡◌, ◌≤◌}
+use Rattle.std.proofs.Common.{Bool, IfSome, List, None, Option, Some, [], ap, arith, false, nat_le, option_and_then, refl, slice_get, subst, sym, true, ℕ, if◌then◌else◌, ◌+◌, ◌==◌, ◌∙◌, ◌∷◌, ◌≡◌, ◌≤◌}
 use Rattle.std.proofs.lemmas.Bool.{and_parts, both_ways, eqb-true}
 use Rattle.std.proofs.lemmas.Option.{same_Some}
-use Rattle.tp_types.proofs.EachLemmas.{missing}
 use Rattle.tp_types.specs.Each.{Each}
 use Rattle.tp_types.specs.Effect.{Effect, ignores, sends}
 use Rattle.tp_model.specs.Causes.{denies_at_newest, is_newer_shown}
@@ -24,7 +23,6 @@ use Rattle.tp_coord.specs.declared.coordinator.Phase.{Phase}
 use Rattle.tp_coord.specs.declared.coordinator.Phase.TheVariants as phase
 use Rattle.tp_coord.specs.declared.coordinator.Span.{Span}
 use Rattle.tp_coord.specs.declared.coordinator.Span.TheVariants as span
-use Rattle.tp_lock.specs.Rule.{answer}
 use Rattle.tp_machine.specs.Machine.{with_age}
 use Rattle.tp_machine.specs.Named.{IsTxn}
 use Rattle.tp_round.specs.Judge.{after_reply}

@@ -2,8 +2,8 @@
 -- query, and where it reads the master once more after the votes.
 use Rattle.std.specs.Cmp.Lexicographic.{pointwise}
 use Rattle.std.specs.List.{list_all, range_with_len}
-use Rattle.std.proofs.Common.{Bool, IfSome, List, None, Option, Some, [], ap, arith, drop, false, if◌then◌else◌, is_none, length, map, min, refl, slice_get, subst, suc, sym, take, true, zero, ℕ, ◌&&◌, ◌++◌, ◌+◌, ◌-◌, ◌<◌, ◌==◌, ◌∙◌, ◌∷◌, ◌≡◌, ◌≤◌}
-use Rattle.std.proofs.lemmas.Bool.{and_from, and_parts}
+use Rattle.std.proofs.Common.{Bool, IfSome, List, None, Option, Some, [], ap, arith, drop, if◌then◌else◌, is_none, length, min, refl, slice_get, subst, suc, sym, take, true, zero, ℕ, ◌&&◌, ◌++◌, ◌+◌, ◌<◌, ◌==◌, ◌∙◌, ◌∷◌, ◌≡◌, ◌≤◌}
+use Rattle.std.proofs.lemmas.Bool.{and_from}
 use Rattle.std.proofs.lemmas.List.FromFn.{length-range_with_len}
 use Rattle.std.proofs.lemmas.List.Folds.{list_all-append}
 use Rattle.std.proofs.lemmas.Option.{slice_get_within}
@@ -14,7 +14,7 @@ use Rattle.tp_model.specs.Demand.{agrees_at, first_of, follows, goes_on, is_inst
 use Rattle.tp_model.specs.Ids.{same_cred, same_proofs, same_rule, same_verdict}
 use Rattle.tp_model.specs.Versions.{is_consistent}
 use Rattle.tp_model.specs.Words.scheme
-use Rattle.tp_model.specs.Words.{Fact, Instance, Scenario, Scheme, Staple, Transaction, TxnId, Verdict, Version}
+use Rattle.tp_model.specs.Words.{Fact, Instance, Scenario, Scheme, Transaction, TxnId, Verdict, Version}
 use Rattle.tp_scheme.specs.Gathered.{pin_of}
 use Rattle.tp_runs.proofs.basics.Turns.{AreEarlier, IsEarlierInstance}
 use Rattle.tp_runs.proofs.basics.Verdicts.{numbers_of}

@@ -1,27 +1,20 @@
 -- Trust: the proofs that an incremental transaction gathers, each by the version that the first of its administrator pins, and the instances
 -- that it closes of them.
-use Rattle.std.specs.Cmp.Lexicographic.{pointwise}
-use Rattle.std.specs.List.{list_all, list_any, range_with_len}
+use Rattle.std.specs.List.{range_with_len}
 use Rattle.std.specs.Option.{option_map_or}
-use Rattle.std.proofs.Common.{Bool, IfSome, List, None, Option, Some, [], ap, arith, cond, drop, false, find, if◌then◌else◌, inl, inr, is_none, length, map, min, nat_le, nat_lt, option_map, refl, slice_get, subst, suc, sym, take, true, zero, ℕ, ⊎_elim, ◌&&◌, ◌++◌, ◌+◌, ◌-◌, ◌<◌, ◌==◌, ◌||◌, ◌∙◌, ◌∷◌, ◌≡◌, ◌≤◌, ◌⊎◌}
-use Rattle.std.proofs.lemmas.Bool.{and_from, and_parts, eq-eqb, eqb-true, le-leb, lt-ltb, or_parts}
-use Rattle.std.proofs.lemmas.List.{length-append, length_push}
-use Rattle.std.proofs.lemmas.List.Folds.{list_all-append}
-use Rattle.std.proofs.lemmas.Option.{slice_get_within}
-use Rattle.tp_types.proofs.EachLemmas.{each_append, each_as, each_from_all}
+use Rattle.std.proofs.Common.{IfSome, List, None, Option, Some, [], ap, arith, length, refl, suc, sym, take, true, zero, ℕ, ◌++◌, ◌+◌, ◌<◌, ◌∙◌, ◌∷◌, ◌≡◌, ◌≤◌}
+use Rattle.std.proofs.lemmas.Bool.{eq-eqb}
+use Rattle.tp_types.proofs.EachLemmas.{each_append, each_as}
 use Rattle.tp_types.proofs.ListLemmas.{number_itself}
-use Rattle.tp_types.specs.Each.{Each, EachAt}
-use Rattle.tp_model.specs.Ids.{same_admin, same_proofs, same_verdict}
-use Rattle.tp_model.specs.Versions.{agrees_with, have_one_version, is_one_version}
+use Rattle.tp_types.specs.Each.{Each}
+use Rattle.tp_model.specs.Versions.{is_one_version}
 use Rattle.tp_model.specs.Words.{AdminId, Verdict, Version}
 use Rattle.tp_scheme.proofs.PinLemmas.{first_proofs_pin, pins_stay}
-use Rattle.tp_scheme.specs.Gathered.{is_of, pin_of, version_of}
-use Rattle.tp_round.proofs.AdminLemmas.{same_ids}
+use Rattle.tp_scheme.specs.Gathered.{pin_of}
 use Rattle.tp_round.proofs.VersionLemmas.{is_at, one_version}
 use Rattle.tp_runs.proofs.basics.Facts.{all_from_each}
 use Rattle.tp_runs.proofs.basics.Turns.{AreEarlier}
 use Rattle.tp_runs.proofs.basics.Verdicts.{numbers_of}
-use Rattle.tp_runs.proofs.trust.Fit.{has_rule}
 
 -- ---- pins
 

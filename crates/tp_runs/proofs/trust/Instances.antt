@@ -12,7 +12,7 @@ use Rattle.tp_model.specs.Demand.{agrees_at, are_instances, count_of, each_follo
 use Rattle.tp_model.specs.Facts.{before, was_submitted}
 use Rattle.tp_model.specs.Levels.{is_global, level_of, reads_master}
 use Rattle.tp_model.specs.Versions.{is_consistent, is_one_version, is_publication, meets_readings, opening_version}
-use Rattle.tp_model.specs.Words.{CommitRecord, Fact, Instance, Scenario, Scheme, Staple, Transaction, TxnId, Verdict}
+use Rattle.tp_model.specs.Words.{CommitRecord, Fact, Instance, Scenario, Scheme, Transaction, TxnId, Verdict}
 use Rattle.tp_model.specs.Words.scheme
 use Rattle.tp_coord.specs.declared.coordinator.Phase.{Phase}
 use Rattle.tp_coord.specs.declared.coordinator.Phase.TheVariants as phase

@@ -19,7 +19,6 @@ use Rattle.tp_model.specs.Words.scheme
 use Rattle.tp_coord.specs.State.{Coordinator}
 use Rattle.tp_coord.specs.declared.coordinator.Phase.{Phase}
 use Rattle.tp_coord.specs.declared.coordinator.Phase.TheVariants as phase
-use Rattle.tp_lock.specs.declared.entry.Asked.TheVariants as asked
 use Rattle.tp_round.proofs.AdminLemmas.{same_ids}
 use Rattle.tp_scheme.specs.Gathered.{is_of, pin_of, version_of}
 use Rattle.tp_runs.proofs.basics.Levels.{item_of_admin}

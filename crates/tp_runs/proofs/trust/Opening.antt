@@ -7,10 +7,9 @@ use Rattle.std.proofs.lemmas.Bool.Decides.{nat_tests}
 use Rattle.tp_types.proofs.ListLemmas.{three_parts}
 use Rattle.std.specs.Cmp.Lexicographic.{pointwise}
 use Rattle.tp_model.proofs.RuleLemmas as rules
-use Rattle.tp_model.specs.Built.{is_built}
 use Rattle.tp_model.specs.Ids.{same_item}
 use Rattle.tp_model.specs.Limits.{has_count}
-use Rattle.tp_model.specs.Valid.{are_distinct, are_known, are_valid_from, is_known, is_valid_admin, is_valid_server, owned_from, same_admin_name, same_server_name}
+use Rattle.tp_model.specs.Valid.{are_distinct, are_known, are_valid_from, is_known, is_valid, is_valid_admin, is_valid_server, owned_from, same_admin_name, same_server_name}
 use Rattle.tp_model.specs.Versions.{opening_version}
 use Rattle.tp_model.specs.Words.{Admin, AdminId, Scenario, ServerDecl, Version}
 use Rattle.tp_machine.specs.Named.{IsAdmin}
@@ -49,14 +48,14 @@ opening_least (admin ∷ admins) zero h within = least_opening admin (and_parts 
 opening_least (admin ∷ admins) (suc n) h within = opening_least admins n (and_parts (is_valid_admin admin) (list_all is_valid_admin admins) h).1 (omega (arith, within))
 
 -- a server knows at first no version above the opening one
-pub known_at_first : (sc : Scenario) (n : ℕ) (admin : AdminId) → is_built sc ≡ true → IsAdmin sc admin
+pub known_at_first : (sc : Scenario) (n : ℕ) (admin : AdminId) → is_valid sc ≡ true → IsAdmin sc admin
     → (unwrap_or (slice_get (option_map_or (λ (declared : ServerDecl). declared.knows) (slice_get sc.servers n) []) admin.0) (record { 0 = 1 })).0 ≤ (opening_version sc admin).0
-known_at_first sc n admin built exists = by_server (slice_get sc.servers n) refl
+known_at_first sc n admin formed exists = by_server (slice_get sc.servers n) refl
   where
     by_server : (found : Option ServerDecl) → slice_get sc.servers n ≡ found
         → (unwrap_or (slice_get (option_map_or (λ (declared : ServerDecl). declared.knows) found []) admin.0) (record { 0 = 1 })).0 ≤ (opening_version sc admin).0
     by_server None e =
-        opening_least sc.admins admin.0 (three_parts (has_count 1 16 sc.admins) (list_all is_valid_admin sc.admins) (are_distinct same_admin_name sc.admins) (rules.valid_built sc built).admins).1 exists
+        opening_least sc.admins admin.0 (three_parts (has_count 1 16 sc.admins) (list_all is_valid_admin sc.admins) (are_distinct same_admin_name sc.admins) (rules.rules_of sc formed).admins).1 exists
     by_server (Some server) e =
         known_within sc.admins server.knows admin.0
-        (server_rules sc 0 sc.servers n server (three_parts (has_count 1 16 sc.servers) (are_valid_from sc 0 sc.servers) (are_distinct same_server_name sc.servers) (rules.valid_built sc built).servers).1 e) exists
+        (server_rules sc 0 sc.servers n server (three_parts (has_count 1 16 sc.servers) (are_valid_from sc 0 sc.servers) (are_distinct same_server_name sc.servers) (rules.rules_of sc formed).servers).1 e) exists

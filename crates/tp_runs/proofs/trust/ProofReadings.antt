@@ -12,13 +12,11 @@ use Rattle.tp_model.specs.Demand.{count_of, is_incremental, is_round_count, read
 use Rattle.tp_model.specs.Facts.{was_submitted}
 use Rattle.tp_model.specs.Levels.{is_global, level_of, reads_master}
 use Rattle.tp_model.specs.Limits.{admins_limit}
-use Rattle.tp_model.specs.Policies.{level}
 use Rattle.tp_model.specs.Versions.{is_consistent, is_publication, meets_reading, meets_readings, newest}
 use Rattle.tp_model.specs.Words.{AdminId, Cause, CommitRecord, Fact, Instance, Mail, Newer, NewestReply, Scenario, Scheme, Transaction, TxnId, Verdict, Version}
 use Rattle.tp_model.specs.Words.actor
 use Rattle.tp_model.specs.Words.body
 use Rattle.tp_model.specs.Words.level
-use Rattle.tp_model.specs.Words.query
 use Rattle.tp_model.specs.Words.scheme
 use Rattle.tp_coord.proofs.Rows.{AfterQuery, AfterVotes, IsProbing, IsProofsReading, gains_instances, with_gained}
 use Rattle.tp_coord.specs.Row.{commit_record, instances_with, older_than, reading_of}

@@ -1,5 +1,5 @@
 -- Trust, the coordinator's queries: each is sent as its scheme asks, and what a query that ran adds is what the scheme demands so far.
-use Rattle.std.proofs.Common.{Bool, IfSome, List, None, Option, Some, [], ap, arith, drop, false, find, is_none, is_some, length, map, option_and_then, option_map, refl, replicate, slice_get, subst, suc, sym, true, zero, ℕ, ℤ, ⊎_elim, if◌then◌else◌, ◌++◌, ◌+◌, ◌-◌, ◌<◌, ◌==◌, ◌∙◌, ◌∷◌, ◌≡◌, ◌≤◌, ◌⊎◌}
+use Rattle.std.proofs.Common.{Bool, IfSome, List, None, Option, Some, [], ap, arith, drop, false, find, is_none, is_some, length, map, option_and_then, option_map, refl, replicate, slice_get, subst, suc, sym, true, zero, ℕ, ℤ, ⊎_elim, if◌then◌else◌, ◌++◌, ◌+◌, ◌-◌, ◌<◌, ◌==◌, ◌∙◌, ◌∷◌, ◌≡◌, ◌≤◌}
 use Rattle.std.proofs.lemmas.Bool.{and_from, and_parts, cases_lt, eqb-true}
 use Rattle.std.proofs.lemmas.List.FromFn.{length-range_with_len}
 use Rattle.std.proofs.lemmas.Option.{same_Some}
@@ -9,7 +9,6 @@ use Rattle.tp_types.specs.Each.{Each}
 use Rattle.tp_model.specs.Demand.{agrees_at, are_instances, first_of, is_incremental, is_instance, is_over, many_of, reads_later}
 use Rattle.tp_model.specs.Levels.{is_global, reads_master}
 use Rattle.tp_model.specs.Limits.{admins_limit, view_rounds}
-use Rattle.tp_model.specs.Policies.{level}
 use Rattle.tp_model.specs.Queries.{query_at}
 use Rattle.tp_model.specs.Versions.{is_consistent, is_one_version, meets_readings, newest}
 use Rattle.tp_model.specs.Words.{AdminId, Answer, DoneReply, Fact, Instance, Mail, Query, Scenario, Scheme, ServerId, Staple, Transaction, TxnId, Verdict, Version}
@@ -27,7 +26,6 @@ use Rattle.tp_coord.specs.declared.coordinator.Phase.{Phase}
 use Rattle.tp_coord.specs.declared.coordinator.Phase.TheVariants as phase
 use Rattle.tp_coord.specs.declared.coordinator.Span.{Span}
 use Rattle.tp_coord.specs.declared.coordinator.Span.TheVariants as span
-use Rattle.tp_lock.specs.Rule.{answer}
 use Rattle.tp_round.proofs.AdminLemmas.{same_ids}
 use Rattle.tp_round.specs.Judge.{first_round, new_target}
 use Rattle.tp_round.specs.Replies.{verdicts_in}

@@ -1,6 +1,6 @@
 -- Trust, the coordinator's rounds, over the queries so far or at commit: requests go with the staple, replies are kept, the master is read
 -- after them, and a round that is judged goes on, aborts, or asks the servers that are out of date again.
-use Rattle.std.proofs.Common.{IfSome, List, None, Option, Some, [], ap, arith, false, is_some, length, map, option_map, refl, slice_get, subst, sym, true, ℕ, ⊎_elim, ◌++◌, ◌+◌, ◌-◌, ◌<◌, ◌∙◌, ◌∷◌, ◌≡◌, ◌≤◌, ◌⊎◌}
+use Rattle.std.proofs.Common.{IfSome, List, None, Option, Some, [], ap, arith, false, is_some, length, map, option_map, refl, slice_get, subst, sym, true, ℕ, ⊎_elim, ◌++◌, ◌+◌, ◌-◌, ◌<◌, ◌∙◌, ◌∷◌, ◌≡◌, ◌≤◌}
 use Rattle.std.proofs.lemmas.Bool.{and_parts, eqb-true}
 use Rattle.std.specs.List.{range_with_len}
 use Rattle.tp_types.proofs.EachLemmas.{each_append, each_as, each_flat_map, missing}

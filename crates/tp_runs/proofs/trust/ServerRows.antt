@@ -1,5 +1,5 @@
 -- Trust, the server's rows: on receipt of a mail.
-use Rattle.std.proofs.Common.{IfSome, List, None, Option, Some, [], ap, arith, inl, inr, is_some, length, refl, slice_get, subst, sym, true, ℕ, ℤ, ◌-◌, ◌==◌, ◌∙◌, ◌∷◌, ◌≡◌, ◌≤◌, ◌⊎◌}
+use Rattle.std.proofs.Common.{IfSome, List, None, Option, Some, [], ap, arith, inl, inr, is_some, length, refl, slice_get, subst, sym, true, ℕ, ℤ, ◌==◌, ◌∙◌, ◌∷◌, ◌≡◌, ◌≤◌, ◌⊎◌}
 use Rattle.std.proofs.lemmas.Bool.{and_from, eqb-true}
 use Rattle.std.proofs.lemmas.Option.{same_Some}
 use Rattle.std.specs.List.{list_all}
@@ -18,7 +18,7 @@ use Rattle.tp_model.specs.Words.vote
 use Rattle.tp_coord.specs.State.{Coordinator}
 use Rattle.tp_coord.specs.declared.coordinator.Phase.{Phase}
 use Rattle.tp_coord.specs.declared.coordinator.Phase.TheVariants as phase
-use Rattle.tp_lock.specs.Rule.{answer, without_grant}
+use Rattle.tp_lock.specs.Rule.{without_grant}
 use Rattle.tp_lock.specs.Table.{Table}
 use Rattle.tp_round.specs.Judge.{is_aimed}
 use Rattle.tp_round.specs.Laws.{wanted_of}

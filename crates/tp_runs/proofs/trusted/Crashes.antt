@@ -1,7 +1,7 @@
 -- Trust, crashes and boots: who comes up keeps of its log what fits, and a coordinator that comes up has decided.
 use Rattle.std.proofs.Common.{IfSome, List, None, Option, Some, [], arith, length, slice_get, subst, true, ℕ, ◌∷◌, ◌≡◌}
 use Rattle.tp_model.proofs.RuleLemmas as rules
-use Rattle.tp_model.specs.Built.{is_built}
+use Rattle.tp_model.specs.Valid.{is_valid}
 use Rattle.tp_model.specs.Facts.{outcome_of}
 use Rattle.tp_model.specs.Words.{Actor, Decision, Fact, Letter, Mail, Record, Scenario, ServerId, TxnId}
 use Rattle.tp_model.specs.Words.actor
@@ -27,7 +27,7 @@ use Rattle.tp_runs.proofs.basics.Facts.{ArePast}
 use Rattle.tp_runs.proofs.basics.Homes.{HaveHomes}
 use Rattle.tp_runs.proofs.basics.Turns.{AreFew, Stamp, few_queries, stamp_of}
 use Rattle.tp_runs.proofs.ids.Queries.{have_homes}
-use Rattle.tp_runs.proofs.ids.Valid.{IsValid, valid_built}
+use Rattle.tp_runs.proofs.ids.Valid.{IsValid, valid_of}
 use Rattle.tp_runs.proofs.known.World.{Pairs}
 use Rattle.tp_runs.proofs.trust.Acts.{ForcesPublished, SaysFit, act_trusts, coordinator_acts_trusts, server_acts_trusts}
 use Rattle.tp_runs.proofs.trust.Coordinator.{CoordinatorTrusts, RecordDecides, orders_fit, orders_timely}
@@ -152,7 +152,7 @@ trusts_crash_cases sc w few valid rightly sound a pairs h =
     }
 
 -- what trust rests on stays
-pub trusts_crashed : (sc : Scenario) (w : State) → is_built sc ≡ true → WaitRightly sc w → IsSound sc w → Agrees sc w → Pairs sc w → Trusts sc w → CrashCases sc w (λ taken move. Trusts sc (state_after w taken move))
-trusts_crashed sc w built rightly sound a pairs h =
+pub trusts_crashed : (sc : Scenario) (w : State) → is_valid sc ≡ true → WaitRightly sc w → IsSound sc w → Agrees sc w → Pairs sc w → Trusts sc w → CrashCases sc w (λ taken move. Trusts sc (state_after w taken move))
+trusts_crashed sc w formed rightly sound a pairs h =
     crash_cases_as sc w (λ taken move. MoveTrusts sc w move) (λ taken move. Trusts sc (state_after w taken move)) (λ taken move t. state_after_trusts sc w taken move a h t)
-    (trusts_crash_cases sc w (few_queries sc (rules.valid_built sc built)) (valid_built sc built) rightly sound a pairs h)
+    (trusts_crash_cases sc w (few_queries sc (rules.rules_of sc formed)) (valid_of sc formed) rightly sound a pairs h)

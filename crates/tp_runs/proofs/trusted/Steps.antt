@@ -1,5 +1,5 @@
 -- Trust, step by step: it holds before the first step, and each step keeps it.
-use Rattle.std.proofs.Common.{Contains, IfSome, List, None, Option, Some, [], ap, arith, false, inl, inr, length, option_and_then, refl, slice_get, subst, suc, sym, true, zero, ℕ, ⊎_elim, ◌+◌, ◌==◌, ◌∙◌, ◌∷◌, ◌≡◌, ◌≤◌, ◌⊎◌}
+use Rattle.std.proofs.Common.{Contains, IfSome, List, None, Option, Some, [], ap, arith, false, inl, inr, length, option_and_then, refl, slice_get, subst, suc, sym, true, zero, ℕ, ⊎_elim, ◌+◌, ◌==◌, ◌∙◌, ◌∷◌, ◌≡◌, ◌≤◌}
 use Rattle.std.proofs.lemmas.Bool.{or_left, or_right}
 use Rattle.std.proofs.lemmas.List.{length-replicate}
 use Rattle.std.proofs.lemmas.List.Folds.{list_any-append}
@@ -8,7 +8,7 @@ use Rattle.tp_types.proofs.ListLemmas.{number_itself}
 use Rattle.tp_types.specs.Each.{Each}
 use Rattle.tp_types.specs.Effect.{Effect}
 use Rattle.tp_model.proofs.RuleLemmas as rules
-use Rattle.tp_model.specs.Built.{is_built}
+use Rattle.tp_model.specs.Valid.{is_valid}
 use Rattle.tp_model.specs.Facts.{is_submission}
 use Rattle.tp_model.specs.Limits.{is_empty}
 use Rattle.tp_model.specs.Words.{Actor, Body, CredId, Deed, Fact, Mail, Scenario, ServerId, Step, TxnId, What}
@@ -40,7 +40,7 @@ use Rattle.tp_runs.proofs.basics.Phases.{is_undecided}
 use Rattle.tp_runs.proofs.basics.Turns.{AreFew, IsOfNoOffice, IsTimely, Stamp, TurnFits, few_queries, stamp_of, timely_anywhere}
 use Rattle.tp_runs.proofs.epochs.World.{made_from_zero}
 use Rattle.tp_runs.proofs.ids.Queries.{have_homes}
-use Rattle.tp_runs.proofs.ids.Valid.{IsValid, valid_built}
+use Rattle.tp_runs.proofs.ids.Valid.{IsValid, valid_of}
 use Rattle.tp_runs.proofs.known.World.{IsNumbered, Pairs, asker_of_up, declared_by, pair_of_up}
 use Rattle.tp_runs.proofs.pairs.Actors.{BodyPairs, LetterPairs, asker_at, asker_by, asker_in, asker_of, pair_at, pair_up, site_of}
 use Rattle.tp_runs.proofs.pairs.CoordinatorRows.{undecided_asker}
@@ -290,8 +290,8 @@ timed_trusts sc w sound past h txn part c up =
 
 -- ---- steps
 
-trusts_cases : (sc : Scenario) (w : State) → is_built sc ≡ true → IsValid sc → AreFew sc → WaitRightly sc w → IsSound sc w → Agrees sc w → Pairs sc w → Trusts sc w → Cases sc w (λ taken move. MoveTrusts sc w move)
-trusts_cases sc w built valid few rightly sound a pairs h =
+trusts_cases : (sc : Scenario) (w : State) → is_valid sc ≡ true → IsValid sc → AreFew sc → WaitRightly sc w → IsSound sc w → Agrees sc w → Pairs sc w → Trusts sc w → Cases sc w (λ taken move. MoveTrusts sc w move)
+trusts_cases sc w formed valid few rightly sound a pairs h =
     record {
       idle = idle_trusts sc w a.past h;
       server_received = λ n mail at part s sent up. receipt_by_server_in_trusted sc w valid rightly sound a.past pairs h n mail at part s sent up;
@@ -313,18 +313,18 @@ trusts_cases sc w built valid few rightly sound a pairs h =
     }
 
 -- a step that is not refused keeps what trust rests on
-pub trusts_next : (sc : Scenario) (m : Machine) (taken : Step) → is_built sc ≡ true → IsStepOf sc taken → KeepsUp taken → refusal m.state taken ≡ None → WaitRightly sc m.state → IsSound sc m.state → Agrees sc m.state → Pairs sc m.state → Trusts sc m.state
+pub trusts_next : (sc : Scenario) (m : Machine) (taken : Step) → is_valid sc ≡ true → IsStepOf sc taken → KeepsUp taken → refusal m.state taken ≡ None → WaitRightly sc m.state → IsSound sc m.state → Agrees sc m.state → Pairs sc m.state → Trusts sc m.state
     → Trusts sc (machine_after sc m taken).state
-trusts_next sc m taken built exists stays allowed rightly sound a pairs h =
+trusts_next sc m taken formed exists stays allowed rightly sound a pairs h =
     machine_after_by sc m (λ taken move. MoveTrusts sc m.state move) (Trusts sc)
-    (trusts_cases sc m.state built (valid_built sc built) (few_queries sc (rules.valid_built sc built)) rightly sound a pairs h) a.coordinator_count
+    (trusts_cases sc m.state formed (valid_of sc formed) (few_queries sc (rules.rules_of sc formed)) rightly sound a pairs h) a.coordinator_count
     (λ taken move t. state_after_trusts sc m.state taken move a h t) taken exists stays allowed
 
 -- ---- before the first step
 
 -- the world before the first step
-pub trusts_opening : (sc : Scenario) → is_built sc ≡ true → Trusts sc (opening_state sc)
-trusts_opening sc built =
+pub trusts_opening : (sc : Scenario) → is_valid sc ≡ true → Trusts sc (opening_state sc)
+trusts_opening sc formed =
     let T = Timely sc (opening_state sc).actors.coordinators in
     record {
       authority = record {
@@ -337,13 +337,13 @@ trusts_opening sc built =
       servers = made_from_zero (λ (k : ℕ) (found : Part Server). ServerPartFits sc [] 0 T (record { 0 = k }) found) (λ (k : ℕ). opened_part (server.opening sc (record { 0 = k }))) (length sc.servers)
           (λ k. record {
             state = record {
-              known = λ admin exists. let low = known_at_first sc k admin built exists in omega (arith, low);
+              known = λ admin exists. let low = known_at_first sc k admin formed exists in omega (arith, low);
             };
             kept = record {
               state = placed_none (λ (m : ℕ) (entry : Entry). IsKept (IsTrusted sc [] 0 T) (record { 0 = m }) entry) (length sc.txns);
               prepared = λ txn p f. absurd (cc);
             };
-            told = λ admin exists. let low = known_at_first sc k admin built exists in omega (arith, low);
+            told = λ admin exists. let low = known_at_first sc k admin formed exists in omega (arith, low);
           });
       coordinators = λ n part e. at_made (λ (k : ℕ) (found : Part Coordinator). CoordinatorPartFits sc [] 0 found) (λ (k : ℕ). opened_part (coord.idle sc (record { 0 = k }))) 0 (length sc.txns)
           (λ k within.

@@ -1,10 +1,8 @@
 -- Refusals, beside the want of memory for their paths.
-use Rattle.std.specs.Prelude.{◌≡◌, ◌⊎◌, ℕ, List, Option, Some, None, IsUtf8}
+use Rattle.std.specs.Prelude.{◌≡◌, ◌⊎◌, ℕ, List, None, IsUtf8}
 use Rattle.serde_json.specs.Read.{read}
 use Rattle.tp_scenario.specs.declared.from_bytes.ScenarioError.{ScenarioError}
 use Rattle.tp_scenario.specs.declared.from_bytes.ScenarioError.TheVariants as refusal
-use Rattle.tp_scenario.specs.declared.path.Site.{Site}
-use Rattle.tp_scenario.specs.Reads.{path_of}
 
 -- it is this refusal, or memory was refused
 abbrev pub IsRefusal : ScenarioError → ScenarioError → Type 0
@@ -19,10 +17,3 @@ IsTextError bytes (refusal.Shape path) = ⊥
 IsTextError bytes (refusal.Range path) = ⊥
 IsTextError bytes (refusal.Unknown path) = ⊥
 IsTextError bytes (refusal.Policy path fault) = ⊥
-IsTextError bytes (refusal.NotYet path) = ⊥
-
--- the refusal for the first form that is not built, if there is one, beside the want of memory for its path
-abbrev pub IsUnbuilt : Option ScenarioError → Option Site → Type 0
-IsUnbuilt None found = found ≡ None
-IsUnbuilt (Some given) None = ⊥
-IsUnbuilt (Some given) (Some site) = IsRefusal (refusal.NotYet (path_of site)) given

@@ -5,9 +5,9 @@ use Rattle.tp_runs.proofs.data.serial.Goals as goal
 pub returns-clause-data : goal.returns-clause-data
 returns-clause-data c =
     let world = c.args.world.now in
-    serial_after world.scenario world.machine.state.steps c.facts.result.now c.facts.ensures.built c.facts.ensures.named (c.facts.ensures.value ∙ c.facts.ensures.of_steps)
+    serial_after world.scenario world.machine.state.steps c.facts.result.now c.facts.ensures.valid c.facts.ensures.named (c.facts.ensures.value ∙ c.facts.ensures.of_steps)
 
 pub returns-clause-lone : goal.returns-clause-lone
 returns-clause-lone c =
     let world = c.args.world.now in
-    lone_after world.scenario world.machine.state.steps c.facts.result.now c.facts.ensures.built c.facts.ensures.named (c.facts.ensures.value ∙ c.facts.ensures.of_steps)
+    lone_after world.scenario world.machine.state.steps c.facts.result.now c.facts.ensures.valid c.facts.ensures.named (c.facts.ensures.value ∙ c.facts.ensures.of_steps)

@@ -22,19 +22,19 @@ returns-clause-overlaid c =
     let world = c.args.world.now in
     came_of_one_up _ _ world.given_up c.ending.result c.ending.ensures.given_up
     (λ up ending is. ap (λ (it : Ending). it.values) is
-    ∙ (so_far_after world.scenario world.machine.state.steps world.machine.state c.facts-facts.ensures.built c.facts-facts.ensures.named (ap (λ (m : Machine). m.state) (c.facts-facts.ensures.reached up))).values_are)
+    ∙ (so_far_after world.scenario world.machine.state.steps world.machine.state c.facts-facts.ensures.valid c.facts-facts.ensures.named (ap (λ (m : Machine). m.state) (c.facts-facts.ensures.reached up))).values_are)
     c.ending.ensures.value
 
 pub returns-clause-ended : goal.returns-clause-ended
 returns-clause-ended c =
     let world = c.args.world.now in
     told_of_one_up _ world.given_up c.ending.result c.ending.ensures.given_up
-    (λ up. ends_after world.scenario world.machine.state.steps world.machine.state c.facts-facts.ensures.built c.facts-facts.ensures.named (ap (λ (m : Machine). m.state) (c.facts-facts.ensures.reached up)))
+    (λ up. ends_after world.scenario world.machine.state.steps world.machine.state c.facts-facts.ensures.valid c.facts-facts.ensures.named (ap (λ (m : Machine). m.state) (c.facts-facts.ensures.reached up)))
 
 pub returns-clause-whole : goal.returns-clause-whole
 returns-clause-whole c =
     let world = c.args.world.now in
     came_of_one_up _ _ world.given_up c.ending.result c.ending.ensures.given_up
     (λ up ending is ended. ap (λ (it : Ending). it.values) is
-    ∙ whole_after world.scenario world.machine.state.steps world.machine.state c.facts-facts.ensures.built c.facts-facts.ensures.named (ap (λ (m : Machine). m.state) (c.facts-facts.ensures.reached up)) ended)
+    ∙ whole_after world.scenario world.machine.state.steps world.machine.state c.facts-facts.ensures.valid c.facts-facts.ensures.named (ap (λ (m : Machine). m.state) (c.facts-facts.ensures.reached up)) ended)
     c.ending.ensures.value

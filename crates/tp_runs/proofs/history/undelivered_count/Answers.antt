@@ -6,5 +6,5 @@ use Rattle.tp_runs.proofs.history.undelivered_count.Goals as goal
 pub returns-clause-few : goal.returns-clause-few
 returns-clause-few c = λ up.
     let world = c.args.world.now in
-    let sent = few_after world.scenario world.machine.state.steps world.machine.state c.facts-facts.ensures.built c.facts-facts.ensures.named (ap (λ (m : Machine). m.state) (c.facts-facts.ensures.reached up)) in
+    let sent = few_after world.scenario world.machine.state.steps world.machine.state c.facts-facts.ensures.valid c.facts-facts.ensures.named (ap (λ (m : Machine). m.state) (c.facts-facts.ensures.reached up)) in
     omega (arith, sent, c.undelivered_count.ensures.few)

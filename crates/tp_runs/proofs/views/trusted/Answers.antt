@@ -5,9 +5,9 @@ use Rattle.tp_runs.proofs.views.trusted.Goals as goal
 pub returns-clause-trust : goal.returns-clause-trust
 returns-clause-trust c =
     let world = c.args.world.now in
-    trusted_after world.scenario world.machine.state.steps c.facts.result.now c.facts.ensures.built c.facts.ensures.named (c.facts.ensures.value ∙ c.facts.ensures.of_steps)
+    trusted_after world.scenario world.machine.state.steps c.facts.result.now c.facts.ensures.valid c.facts.ensures.named (c.facts.ensures.value ∙ c.facts.ensures.of_steps)
 
 pub returns-clause-causes : goal.returns-clause-causes
 returns-clause-causes c =
     let world = c.args.world.now in
-    caused_after world.scenario world.machine.state.steps c.facts.result.now c.facts.ensures.built c.facts.ensures.named (c.facts.ensures.value ∙ c.facts.ensures.of_steps)
+    caused_after world.scenario world.machine.state.steps c.facts.result.now c.facts.ensures.valid c.facts.ensures.named (c.facts.ensures.value ∙ c.facts.ensures.of_steps)

@@ -1,9 +1,6 @@
 use Rattle.serde_json.specs.View.{view}
-use Rattle.tp_scenario.proofs.ReadLemmas.{built_from, valid_from}
+use Rattle.tp_scenario.proofs.ReadLemmas.{valid_from}
 use Rattle.tp_scenario.proofs.from_bytes.read.Goals as goal
 
 pub returns-clause-valid : goal.returns-clause-valid
 returns-clause-valid c = valid_from (view c.in_ok-value.value) c.scenario_of.result c.scenario_of.ensures
-
-pub returns-clause-built : goal.returns-clause-built
-returns-clause-built c = built_from (view c.in_ok-value.value) c.scenario_of.result c.scenario_of.ensures

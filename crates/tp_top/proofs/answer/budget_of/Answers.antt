@@ -3,4 +3,4 @@ use Rattle.tp_top.proofs.BoundLemmas.{few_undelivered}
 use Rattle.tp_top.proofs.answer.budget_of.Goals as goal
 
 pub bound-requires-clause-few : goal.bound-requires-clause-few
-bound-requires-clause-few c = omega (arith, few_undelivered c.args.world.now c.undelivered_count.result c.scenario.ensures.built c.requires.here c.undelivered_count.ensures.few)
+bound-requires-clause-few c = omega (arith, few_undelivered c.args.world.now c.undelivered_count.result c.scenario.ensures.valid c.requires.here c.undelivered_count.ensures.few)

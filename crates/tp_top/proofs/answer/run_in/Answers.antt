@@ -9,4 +9,4 @@ use Rattle.tp_top.proofs.answer.run_in.Goals as goal
 pub follow-requires-clause-ids : goal.follow-requires-clause-ids
 follow-requires-clause-ids c =
     subst (λ (steps : List Step). Each (IsStepOf c.args.world.now.scenario) steps) (sym c.as_slice.ensures)
-    (subst (λ (world : WorldView). Each (IsStepOf world.scenario) c.args.scenario.now.steps) (sym c.requires.fresh) (listed_exist c.args.scenario.now c.requires.built))
+    (subst (λ (world : WorldView). Each (IsStepOf world.scenario) c.args.scenario.now.steps) (sym c.requires.fresh) (listed_exist c.args.scenario.now c.requires.valid))

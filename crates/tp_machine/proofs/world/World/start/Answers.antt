@@ -1,5 +1,5 @@
 use Rattle.std.proofs.Common.{arith}
-use Rattle.tp_model.proofs.RuleLemmas.{few_servers, few_txns, valid_built}
+use Rattle.tp_model.proofs.RuleLemmas.{few_servers, few_txns, rules_of}
 use Rattle.tp_machine.proofs.basics.Start.{machine_opened, world_at_start}
 use Rattle.tp_machine.proofs.world.World.start.Goals as goal
 
@@ -7,11 +7,11 @@ pub invariant_of-result : goal.invariant_of-result
 invariant_of-result c =
     let sc = c.args.scenario.now in
     let history = c.new.ensures in
-    world_at_start sc _ _ c.requires.built c.requires.fit c.in_ok-try_clone.ensures
+    world_at_start sc _ _ c.requires.valid c.requires.fit c.in_ok-try_clone.ensures
     (machine_opened sc c.in_ok-actors.actors c.new.result c.in_ok-actors.ensures history.steps history.facts history.mails history.pending)
 
 pub opened-requires-clause-servers : goal.opened-requires-clause-servers
-opened-requires-clause-servers c = let few = few_servers c.args.scenario.now (valid_built c.args.scenario.now c.requires.built) in omega (arith, few)
+opened-requires-clause-servers c = let few = few_servers c.args.scenario.now (rules_of c.args.scenario.now c.requires.valid) in omega (arith, few)
 
 pub opened-requires-clause-txns : goal.opened-requires-clause-txns
-opened-requires-clause-txns c = let few = few_txns c.args.scenario.now (valid_built c.args.scenario.now c.requires.built) in omega (arith, few)
+opened-requires-clause-txns c = let few = few_txns c.args.scenario.now (rules_of c.args.scenario.now c.requires.valid) in omega (arith, few)

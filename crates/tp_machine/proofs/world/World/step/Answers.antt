@@ -1,5 +1,5 @@
 use Rattle.std.proofs.Common.{◌≡◌, [], ◌∷◌, ◌++◌, ap, arith, sym, subst, ◌∙◌}
-use Rattle.tp_model.proofs.RuleLemmas.{few_servers, valid_built}
+use Rattle.tp_model.proofs.RuleLemmas.{few_servers, rules_of}
 use Rattle.tp_machine.specs.Machine.{Machine, after}
 use Rattle.tp_machine.specs.WorldView.{HasAllActors, WorldView, machine_of}
 use Rattle.tp_types.specs.Each.{Each}
@@ -22,7 +22,7 @@ invariant_of-self c =
     let named : Each (IsStepOf sc) new.state.steps = subst (Each (IsStepOf sc)) (sym steps) (each_more (IsStepOf sc) old.state.steps taken c.self.invariant.named exists) in
     let reached : new ≡ after sc new.state.steps = reached_next sc old new taken (c.self.invariant.reached c.if-self.false) (sym c.in-None.ensures) c.in-Ok.ensures.ok in
     record {
-      built = c.self.invariant.built;
+      valid = c.self.invariant.valid;
       fit = c.self.invariant.fit;
       whole = subst (λ (m : Machine). HasAllActors sc m.state.actors) (sym c.in-Ok.ensures.ok) (all_after sc old taken c.self.invariant.whole);
       named = named;
@@ -31,10 +31,10 @@ invariant_of-self c =
     }
 
 pub act-requires-clause-servers : goal.act-requires-clause-servers
-act-requires-clause-servers c = let few = few_servers c.self.inside.scenario (valid_built c.self.inside.scenario c.self.invariant.built) in omega (arith, few)
+act-requires-clause-servers c = let few = few_servers c.self.inside.scenario (rules_of c.self.inside.scenario c.self.invariant.valid) in omega (arith, few)
 
 pub act-requires-clause-few : goal.act-requires-clause-few
-act-requires-clause-few c = few_rules c.self.inside.scenario c.self.invariant.built
+act-requires-clause-few c = few_rules c.self.inside.scenario c.self.invariant.valid
 
 pub act-requires-clause-fits : goal.act-requires-clause-fits
 act-requires-clause-fits c =
