@@ -16,9 +16,9 @@ use Rattle.tp_machine.specs.WorldView.{Does, Refuses, WorldView}
 use Rattle.tp_types.specs.Each.{Each}
 use Rattle.tp_machine.specs.Named.{IsCrasher, IsStepOf}
 use Rattle.tp_machine.proofs.basics.Machine.{after_steps-snoc}
-use Rattle.tp_top.proofs.AutoLemmas.{after_allowed, drop_more, take_more}
+use Rattle.tp_auto.proofs.AutoLemmas.{after_allowed, drop_more, take_more}
 use Rattle.tp_top.specs.declared.listed.StepRefusal.{StepRefusal}
-use Rattle.tp_top.specs.Auto.{world_after}
+use Rattle.tp_auto.specs.Auto.{world_after}
 use Rattle.tp_top.specs.Listed.{refused_from, refused_or}
 use Rattle.tp_top.specs.mirrors.Answers.{Follows}
 

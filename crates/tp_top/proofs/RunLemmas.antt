@@ -8,7 +8,7 @@ use Rattle.tp_scenario.specs.declared.from_bytes.ScenarioError.{ScenarioError}
 use Rattle.tp_top.proofs.TrustedRun.{trusted_run}
 use Rattle.tp_top.specs.declared.answer.Answer.{Answer}
 use Rattle.tp_top.specs.declared.answer.Answer.TheVariants as answer
-use Rattle.tp_top.specs.Auto.{automatic_from, cursor_after, next_of}
+use Rattle.tp_auto.specs.Auto.{automatic_from, cursor_after, next_of}
 use Rattle.tp_top.specs.mirrors.Answers.{IsRefusal, IsReported}
 use Rattle.tp_scenario.specs.Reads.{IsOutOfMemory}
 use Rattle.tp_top.specs.Input.{Reads, TakesAll}

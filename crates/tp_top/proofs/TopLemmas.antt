@@ -15,7 +15,7 @@ use Rattle.tp_top.specs.declared.status.Status.{Status}
 use Rattle.tp_top.specs.declared.status.Status.TheVariants.{Done, Refused, NoMemory, Budget}
 use Rattle.tp_machine.specs.declared.actors.Actors.{Actors}
 use Rattle.tp_machine.specs.Machine.{Machine, after_step, ending_of}
-use Rattle.tp_top.specs.Auto.{automatic_from, cursor_after, first_armed, is_quiet, lowest_down, lowest_unsubmitted, next_by, next_of}
+use Rattle.tp_auto.specs.Auto.{automatic_from, cursor_after, first_armed, is_quiet, lowest_down, lowest_unsubmitted, next_by, next_of}
 use Rattle.tp_top.specs.Headline.{PrintsTrusted, comes_by_itself}
 use Rattle.tp_top.specs.Refusals.{refusal_line, step_line}
 use Rattle.tp_top.specs.Input.{AreRefused, Reads, TakesAll}

@@ -19,11 +19,11 @@ use Rattle.tp_machine.specs.Named.{IsStepOf, IsTxn}
 use Rattle.tp_machine.proofs.basics.Machine.{steps_next}
 use Rattle.tp_machine.proofs.basics.Timers.{timer_allowed}
 use Rattle.tp_types.proofs.EachLemmas.{each_append, each_as, each_filter}
-use Rattle.tp_top.specs.Auto.{automatic_from, cursor_after, first_armed, is_quiet, lowest_down, lowest_unsubmitted, next_by, next_of, txns_of}
+use Rattle.tp_auto.specs.Auto.{automatic_from, cursor_after, first_armed, is_quiet, lowest_down, lowest_unsubmitted, next_by, next_of, txns_of}
 use Rattle.tp_top.specs.Listed.{refused_from}
 use Rattle.tp_top.specs.Run.{all_steps, automatic, automatic_bound, final, first_refused, after_listed}
-use Rattle.tp_top.proofs.AutoLemmas.{after_allowed, automatic-none, automatic-some}
-use Rattle.tp_top.proofs.NextLemmas.{armed_found, below, boot_allowed, down_found, found_holds, quiet_finished, txns_exist}
+use Rattle.tp_auto.proofs.AutoLemmas.{after_allowed, automatic-none, automatic-some}
+use Rattle.tp_auto.proofs.NextLemmas.{armed_found, below, boot_allowed, down_found, found_holds, quiet_finished, txns_exist}
 use Rattle.tp_top.proofs.ListedRun.{listed_exist, none_refused}
 
 -- ---- the undelivered mails were sent

@@ -6,7 +6,7 @@ use Rattle.tp_model.specs.TrustedHistory.{TrustedHistory}
 use Rattle.tp_model.specs.Words.step
 use Rattle.tp_model.specs.Words.{Ending, Fact, Scenario, Step}
 use Rattle.tp_top.specs.Input.{Reads, TakesAll}
-use Rattle.tp_top.specs.ReportText.{report_text}
+use Rattle.tp_report.specs.ReportText.{report_text}
 
 -- a step that the automatic phase may take: a submission of a transaction, the delivery of a mail, a timer, or a boot
 abbrev pub comes_by_itself : Step → Bool

@@ -1,9 +1,7 @@
-pub mod Auto
 pub mod Headline
 pub mod Input
 pub mod Listed
 pub mod Refusals
-pub mod ReportText
 pub mod Run
 pub mod Status
 pub mod Top

@@ -7,7 +7,7 @@ use Rattle.tp_policy_text.specs.declared.parsing.ParseError.{ParseError}
 use Rattle.tp_policy_text.specs.declared.parsing.ParseError.TheVariants as fault
 use Rattle.tp_scenario.specs.declared.from_bytes.ScenarioError.{ScenarioError}
 use Rattle.tp_scenario.specs.declared.from_bytes.ScenarioError.TheVariants.{TooLong, BadJson, Shape, Range, Unknown, Policy, NoMemory}
-use Rattle.tp_top.specs.ReportText.{actor_name, admin_name, txn_name}
+use Rattle.tp_report.specs.ReportText.{actor_name, admin_name, txn_name}
 
 -- what is wrong with a policy's text, and at which byte of it
 abbrev pub fault_text : ParseError → List ℕ

@@ -9,12 +9,12 @@ use Rattle.tp_top.specs.declared.answer.Answer.{Answer}
 use Rattle.tp_top.specs.declared.answer.Answer.TheVariants as answer
 use Rattle.tp_scenario.specs.declared.from_bytes.ScenarioError.{ScenarioError}
 use Rattle.tp_scenario.specs.declared.from_bytes.ScenarioError.TheVariants.{TooLong, BadJson, Shape, Range, Unknown, Policy, NoMemory}
-use Rattle.tp_top.specs.Auto.{automatic_steps, bound, is_quiet}
+use Rattle.tp_auto.specs.Auto.{automatic_steps, bound, is_quiet}
 use Rattle.tp_top.specs.declared.listed.StepRefusal.{StepRefusal}
 use Rattle.tp_top.specs.Input.{AreRefused, Reads, TakesAll}
 use Rattle.tp_top.specs.Listed.{refused_from}
 use Rattle.tp_top.specs.Refusals.{refusal_line, step_line}
-use Rattle.tp_top.specs.ReportText.{report_text}
+use Rattle.tp_report.specs.ReportText.{report_text}
 
 -- the words are the one word run
 abbrev pub IsRun : List Text → Type 0

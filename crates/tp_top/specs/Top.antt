@@ -9,7 +9,7 @@ use Rattle.tp_scenario.specs.declared.from_bytes.ScenarioError.TheVariants as er
 use Rattle.tp_top.specs.declared.status.Status.{Status}
 use Rattle.tp_top.specs.declared.status.Status.TheVariants.{Done, Refused, Usage, ReadFault, WriteFault, NoMemory, Budget}
 use Rattle.tp_top.specs.declared.listed.StepRefusal.{StepRefusal}
-use Rattle.tp_top.specs.Auto.{is_quiet}
+use Rattle.tp_auto.specs.Auto.{is_quiet}
 use Rattle.tp_top.specs.Refusals.{refusal_line, step_line, usage_line}
 use Rattle.tp_top.specs.Input.{AreRefused, Reads}
 use Rattle.tp_top.specs.Run.{IsRun, HasRefusal, RunsOut, RunsTo, final, first_refused}

@@ -1,23 +1,12 @@
-//! The top call of the cluster's program, and what stands directly under it: the listed steps, the automatic phase, and printing reports.
+//! The top call of the cluster's program, and what stands directly under it: the listed steps and the lines of refusals.
 //!
 //! What is promised, with the contract that carries it:
 //!
 //! - The headline, which names no machine: at Done the input was read whole as a scenario, and exactly the report
 //!   of a trusted history of it was written, whose steps are the listed ones and then such as come by themselves
 //!   (`tpvc`: `printed`)
-//! - The report's text is exactly the defined one, for any scenario, facts and ending (`report::print`)
 //! - Each status has its number (`Status::number`)
-//! - The next step is the defined one, or None exactly where the world is quiet: a delivery, a submission, or the
-//!   timer of the first armed transaction from the cursor on; it is one that `World::step` takes and does not
-//!   refuse (`auto::next`: `value`, `valid`, `ids`, `allowed`)
-//! - A drain does exactly the automatic steps of the world, with the cursor at 0 at first, and at most as many as
-//!   its budget (`auto::drain`: `steps`)
-//! - It answers Quiet only where the world is quiet, and Budget only where it did the whole budget and the
-//!   world is not quiet (`auto::drain`: `quiet`, `budget`)
-//! - Where memory is refused the world is given up, after the automatic steps that came before (`auto::drain`:
-//!   `memory`, `stopped`)
-//! - The bound is the defined number, and that of a world after its listed steps is the scenario's
-//!   (`auto::bound`; `answer::budget_of`)
+//! - The bound of a world after its listed steps is the scenario's (`answer::budget_of`)
 //! - At Done the words are the one word `run`. Exactly the bytes that were taken from the input, up to its end,
 //!   read as a scenario, the machine refuses none of its listed steps (`first_refused`), and after all steps it
 //!   is quiet. The output has gained exactly the report's text of this machine's facts and ending, and the
@@ -54,10 +43,8 @@
 #![tactic(auto)]
 
 mod answer;
-pub mod auto;
 mod listed;
 mod refusals;
-pub mod report;
 mod status;
 mod top;
 

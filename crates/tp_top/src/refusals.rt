@@ -1,14 +1,14 @@
 //! The lines of refusals.
 ghost use Rattle.std.specs.Prelude.{◌≡◌, ◌++◌, IfOk, OnOk, codes};
 ghost use Rattle.tp_top.specs.Refusals as refusals;
-ghost use Rattle.tp_top.specs.ReportText.{txn_name};
+ghost use Rattle.tp_report.specs.ReportText.{txn_name};
 
 use crate::listed::StepRefusal;
-use crate::report::piece::{put, put_actor, put_admin, put_number, put_txn};
 use itoa::Integer;
 use std::alloc::Global;
 use tp_machine::StepError;
 use tp_policy_text::ParseError;
+use tp_report::piece::{put, put_actor, put_admin, put_number, put_txn};
 use tp_scenario::ScenarioError;
 use tp_types::{List, NoMemory, Scenario, Text, TxnId};
 

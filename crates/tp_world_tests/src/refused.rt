@@ -1,10 +1,10 @@
 //! A world that is refused memory in a step is given up: it answers so from then on, what it shows stays, and of each actor's disk
 //! no record is lost. The test passes where no memory is refused; `tools/refused_memory` refuses each allocation of it in turn.
 use crate::run::FIRST;
+use tp_auto::next;
 use tp_machine::{StepError, World};
 use tp_runs::history::start;
 use tp_scenario::read;
-use tp_top::auto::next;
 use tp_types::{Actor, ServerId, Step, TxnId};
 
 /// More steps than the run of the first scenario has.

@@ -1,7 +1,7 @@
 //! Reports of facts that are made by hand and that no run yields yet, against texts that were typed by hand.
 use std::process::Abort;
+use tp_report::print;
 use tp_scenario::read;
-use tp_top::report::print;
 use tp_types::{
     Action, Actor, AdminId, Cause, CommitRecord, CredId, Decision, Deed, Denied, Died, Ending,
     Fact, Instance, ItemId, List, Met, Newer, OutOfRange, Outcome, Place, Scenario, ServerId,

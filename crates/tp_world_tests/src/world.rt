@@ -2,10 +2,10 @@
 //! phase, automatic steps that come to their budget, and what a timer sends after each step.
 use crate::run::FIRST;
 use std::process::Abort;
+use tp_auto::{Drained, bound, drain, next};
 use tp_machine::{StepError, World};
 use tp_runs::history::start as start_of;
 use tp_scenario::read;
-use tp_top::auto::{Drained, bound, drain, next};
 use tp_types::{Fact, Step, TxnId, What};
 
 /// The last moment of the clock.

@@ -8,7 +8,7 @@ use Rattle.tp_scenario.specs.declared.from_bytes.ScenarioError.{ScenarioError}
 use Rattle.tp_top.specs.declared.answer.Answer.{Answer}
 use Rattle.tp_top.specs.declared.answer.Answer.TheVariants as answer
 use Rattle.tp_top.specs.declared.listed.StepRefusal.{StepRefusal}
-use Rattle.tp_top.specs.Auto.{is_quiet, world_after}
+use Rattle.tp_auto.specs.Auto.{is_quiet, world_after}
 use Rattle.tp_top.specs.Listed.{refused_from}
 use Rattle.tp_top.specs.Refusals.{refusal_line, step_line}
 use Rattle.tp_top.specs.Run.{automatic, automatic_bound, final, first_refused, after_listed, report_of}

@@ -1,0 +1,4 @@
+pub mod AutoLemmas
+pub mod BoundLemmas
+pub mod NextLemmas
+pub mod UpLemmas

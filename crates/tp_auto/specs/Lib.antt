@@ -1,0 +1,2 @@
+pub mod Auto
+pub mod mirrors

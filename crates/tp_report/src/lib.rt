@@ -1,0 +1,16 @@
+//! The report: what happened in a run, fact by fact, and how it ended.
+//!
+//! What is promised, with the contract that carries it:
+//!
+//! - The report's text is exactly the defined one, for any scenario, facts and ending (`print`)
+//! - Facts and an ending that are printable can be read back from their report: for a valid scenario whose names are
+//!   spelled as names, without a credential called `none`, no two have one text (`reports_tell_one_history`)
+#![tactic(auto)]
+
+mod cause;
+mod commit;
+mod fact;
+pub mod piece;
+mod report;
+
+pub use report::{print, reports_tell_one_history};

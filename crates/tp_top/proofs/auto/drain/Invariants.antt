@@ -1,7 +1,0 @@
-use Rattle.tp_top.proofs.AutoLemmas.{SoFar}
-use Rattle.tp_top.specs.mirrors.Ups.{KnowsUp}
-use Rattle.tp_top.proofs.auto.drain.Given as goal
-
--- so many automatic steps are done, the cursor stands where they have brought it, and after a step that is no boot nobody is down
-abbrev pub invariant-loop-turn : goal.invariant-loop-turn
-invariant-loop-turn l = SoFar l.initial.world l.world l.budget l._turn l.cursor × KnowsUp l.all_up l.world
