@@ -1,5 +1,5 @@
 -- What a run is: from bytes to the world after all steps, and its report.
-use Rattle.std.specs.Prelude.{◌≡◌, ◌⊎◌, ℕ, ◌+◌, ◌≤◌, List, [], ◌∷◌, ◌++◌, length, true, false, Option, Some, None, Ok, Err, codes}
+use Rattle.std.specs.Prelude.{◌≡◌, ◌⊎◌, ℕ, ◌+◌, ◌≤◌, List, ◌++◌, length, true, false, Option, Some, None, Ok, Err}
 use Rattle.tp_model.specs.Words.{Scenario, Step, Text}
 use Rattle.tp_types.specs.Faults.{Rose}
 use Rattle.tp_io.specs.Whole.{TakesAtMost, TakesExactly, input_max}
@@ -15,10 +15,12 @@ use Rattle.tp_top.specs.Input.{AreRefused, Reads, TakesAll}
 use Rattle.tp_top.specs.Listed.{refused_from}
 use Rattle.tp_top.specs.Refusals.{refusal_line, step_line}
 use Rattle.tp_report.specs.ReportText.{report_text}
+use Rattle.tp_words.specs.Commands.{IsCommand}
+use Rattle.tp_words.specs.declared.commands.Command.TheVariants.{Run}
 
--- the words are the one word run
+-- the words are the command `run`
 abbrev pub IsRun : List Text → Type 0
-IsRun words = words ≡ record { 0 = codes "run" } ∷ []
+IsRun words = IsCommand words Run
 
 -- ---- the listed steps
 

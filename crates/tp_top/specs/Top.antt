@@ -69,25 +69,25 @@ pub record FailsInUsage (notes : Stream) : Type 0 where
 
 -- ---- at each status
 
--- the words are the one word run, the report was written to out, and nothing to notes
+-- the words are the command run, the report was written to out, and nothing to notes
 pub record IsDone (call : Call) : Type 0 where
   pub words_are : IsRun call.words
   pub report : WritesReport call.input call.out
   pub notes_kept : IsUntouched call.notes
 
--- the words are the one word run, the refusal was written to notes, and nothing to out
+-- the words are the command run, the refusal was written to notes, and nothing to out
 pub record IsRefused (call : Call) : Type 0 where
   pub words_are : IsRun call.words
   pub refusal : WritesRefusal call.input call.notes
   pub out_kept : IsUntouched call.out
 
--- the words are another command, the line on usage was written to notes, and nothing to out
+-- the words are not the command run, the line on usage was written to notes, and nothing to out
 pub record IsUsage (call : Call) : Type 0 where
   pub no_command : ¬ (IsRun call.words)
   pub written : Appends call.notes.old call.notes.new usage_line
   pub out_kept : IsUntouched call.out
 
--- the words are the one word run, the input failed after a part of it, and nothing was written
+-- the words are the command run, the input failed after a part of it, and nothing was written
 pub record IsReadFault (call : Call) : Type 0 where
   pub words_are : IsRun call.words
   pub rose : HasFailed call.input
@@ -95,7 +95,7 @@ pub record IsReadFault (call : Call) : Type 0 where
   pub out_kept : IsUntouched call.out
   pub notes_kept : IsUntouched call.notes
 
--- the words are the one word run, the automatic steps came to their bound, and nothing was written
+-- the words are the command run, the automatic steps came to their bound, and nothing was written
 pub record IsBudget (call : Call) : Type 0 where
   pub words_are : IsRun call.words
   pub runs_out : RunsOut call.input.old call.input.new

@@ -7,7 +7,7 @@
 //!   (`tpvc`: `printed`)
 //! - Each status has its number (`Status::number`)
 //! - The bound of a world after its listed steps is the scenario's (`answer::budget_of`)
-//! - At Done the words are the one word `run`. Exactly the bytes that were taken from the input, up to its end,
+//! - At Done the words are the command `run`. Exactly the bytes that were taken from the input, up to its end,
 //!   read as a scenario, the machine refuses none of its listed steps (`first_refused`), and after all steps it
 //!   is quiet. The output has gained exactly the report's text of this machine's facts and ending, and the
 //!   notes have gained nothing. The history that was printed is trusted (`TrustedHistory`): no two actors
@@ -18,9 +18,9 @@
 //! - At Refused the notes have gained exactly the line of a refusal, and the output nothing; the cause stands
 //!   in what was taken (`Run.RefusesInput`), or it is the first listed step that the machine refuses, with its
 //!   number and the reason (`Run.RefusesStep`) (`tpvc`: `ended`: `IsRefused`)
-//! - At Usage the words are not the one word `run`, the notes have gained the line on usage, and the output
+//! - At Usage the words are not the command `run`, the notes have gained the line on usage, and the output
 //!   nothing (`tpvc`: `ended`: `IsUsage`)
-//! - For words that are not the one word `run` the input stays as it was (`tpvc`: `unread`)
+//! - For words that are not the command `run` the input stays as it was (`tpvc`: `unread`)
 //! - At every status at most 16,777,217 bytes of the input were taken (`tpvc`: `taken`)
 //! - At ReadFault the input's count of faults rose, what was taken is a front of what it had, and nothing was
 //!   written (`tpvc`: `ended`: `IsReadFault`)
@@ -31,8 +31,8 @@
 //! - At Budget the bytes read as a scenario whose machine is not quiet after the bound's number of automatic
 //!   steps, and nothing was written (`tpvc`: `ended`: `IsBudget`)
 //! - At NoMemory nothing was written (`tpvc`: `ended`: `IsNoMemory`)
-//! - Where the notes' count of faults did not rise, words that are not `run` are answered by Usage (`tpvc`:
-//!   `called`)
+//! - Where the notes' count of faults did not rise, words that are not `run` are answered by Usage or NoMemory
+//!   (`tpvc`: `called`)
 //! - For the word `run`, an input that tells its bytes, and no count that rose: too many bytes are answered by
 //!   `refused toolong`, any other bytes that are refused by the line of their refusal, with its path, a
 //!   scenario of which a listed step is refused by the line of the first such step, one that comes to rest by

@@ -7,16 +7,16 @@ ghost use Rattle.tp_top.specs.declared.status.Status.TheVariants as Status;
 ghost use Rattle.tp_top.specs.Headline.{PrintsTrusted};
 ghost use Rattle.tp_top.specs.Refusals.{usage_line};
 ghost use Rattle.tp_top.specs.Run.{IsRun, HasRefusal, RunsTo};
-ghost use Rattle.tp_top.specs.Top.{EndsWith, EndsRightly};
+ghost use Rattle.tp_top.specs.Top.{Ends, EndsWith, EndsRightly};
 
 use crate::answer::{Answer, answer_to};
 use crate::status::Status;
 use std::alloc::Global;
 use tp_io::{Sink, Source, write_all};
-use tp_model::only;
-use tp_types::Text;
+use tp_types::{NoMemory, Text};
+use tp_words::{Command, command_of};
 
-/// Does all that the program does: reads the input where the words are `run`, and writes the report to `out`, or why there
+/// Does all that the program does: reads the input where the words are the command `run`, and writes the report to `out`, or why there
 /// is none to `notes`. It always returns. The whole text is made before the first write, and the writes take no memory.
 pub fn tpvc<I: Source, O: Sink, N: Sink>(
     alloc: Global,
@@ -51,20 +51,24 @@ pub fn tpvc<I: Source, O: Sink, N: Sink>(
       };
     }) }
 
-    // Where no count rose, another command is answered by usage, and each cause in an input that is told by its status.
+    // Where no count rose, other words are answered by usage, and each cause in an input that is told by its status.
     ensures called { ¬ (IsRun words.now) → ¬ (Rose (N.faults notes.old) (N.faults notes.new))
-        → result ≡ Status.Usage }
+        → Ends result Status.Usage }
     ensures complete { IsRun words.now → ¬ (Rose (I.faults input.old) (I.faults input.new))
         → ¬ (Rose (O.faults out.old) (O.faults out.new))
         → ¬ (Rose (N.faults notes.old) (N.faults notes.new))
         → IfSome (I.left input.old) (λ bytes.
         EndsRightly bytes result (N.written notes.old) (N.written notes.new)) }
 
-    // At every status at most one byte more than an input may have is read, and where the words are another command none is.
+    // At every status at most one byte more than an input may have is read, and where the words are not `run` none is.
     ensures taken { TakesAtMost (input_max + 1) (I.left input.old) (I.left input.new) }
     ensures unread { ¬ (IsRun words.now) → input.new ≡ input.old }
 {
-    if !is_run(words) {
+    let runs = match is_run(alloc, words) {
+        Ok(runs) => runs,
+        Err(NoMemory) => return Status::NoMemory,
+    };
+    if !runs {
         return match write_all(notes, b"usage: tpvc COMMAND [WORD]\n") {
             Ok(()) => Status::Usage,
             Err(_) => Status::WriteFault,
@@ -85,11 +89,13 @@ pub fn tpvc<I: Source, O: Sink, N: Sink>(
     }
 }
 
-fn is_run(words: &[Text]) -> bool
-    ensures { IsTrue result ↔ IsRun words.now }
+/// Whether the words are the command `run`.
+fn is_run(alloc: Global, words: &[Text]) -> Result<bool, NoMemory>
+    ensures { IfOk result (λ is. IsTrue is ↔ IsRun words.now) }
 {
-    match only(words) {
-        None => false,
-        Some(word) => word.0.as_slice() == b"run".as_slice(),
+    match command_of(alloc, words)? {
+        None => Ok(false),
+        Some(Command::Run) => Ok(true),
+        Some(Command::Bulk(_)) => Ok(false),
     }
 }

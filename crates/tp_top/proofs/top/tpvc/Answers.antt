@@ -10,29 +10,29 @@ returns-in-Refused-clause-ended g c =
       refusal = record {
         line = c.in-Refused.line.0;
         cause = c.in-Refused.ensures.cause;
-        front = rw c.as_slice-in-Refused.ensures at c.in-Err-write_all-2.ensures.front;
-        rose = c.in-Err-write_all-2.ensures.cause;
+        front = rw c.as_slice-in-Refused.ensures at c.in-Err-write_all-3.ensures.front;
+        rose = c.in-Err-write_all-3.ensures.cause;
       };
       out_kept = Appends-nil _;
     }))
 
-pub returns-in-Ok-write_all-2-clause-complete : goal.returns-in-Ok-write_all-2-clause-complete
-returns-in-Ok-write_all-2-clause-complete g c =
-    λ _ _ _ _. refusal_complete _ _ _ _ c.in-Refused.line.0 c.in-Refused.ensures.cause (rw c.as_slice-in-Refused.ensures at c.in-Ok-write_all-2.ensures.whole)
+pub returns-in-Ok-write_all-3-clause-complete : goal.returns-in-Ok-write_all-3-clause-complete
+returns-in-Ok-write_all-3-clause-complete g c =
+    λ _ _ _ _. refusal_complete _ _ _ _ c.in-Refused.line.0 c.in-Refused.ensures.cause (rw c.as_slice-in-Refused.ensures at c.in-Ok-write_all-3.ensures.whole)
 
-pub returns-in-Ok-write_all-clause-complete : goal.returns-in-Ok-write_all-clause-complete
-returns-in-Ok-write_all-clause-complete g c = λ _ _ _ _. report_complete _ _ _ _ _ c.in-Report.ensures.cause
+pub returns-in-Ok-write_all-2-clause-complete : goal.returns-in-Ok-write_all-2-clause-complete
+returns-in-Ok-write_all-2-clause-complete g c = λ _ _ _ _. report_complete _ _ _ _ _ c.in-Report.ensures.cause
 
 pub returns-in-Budget-clause-complete : goal.returns-in-Budget-clause-complete
 returns-in-Budget-clause-complete g c = λ _ _ _ _. budget_complete _ _ _ _ c.in-Budget.ensures.cause
 
-pub returns-in-Ok-write_all-clause-ended : goal.returns-in-Ok-write_all-clause-ended
-returns-in-Ok-write_all-clause-ended g c = record {
+pub returns-in-Ok-write_all-2-clause-ended : goal.returns-in-Ok-write_all-2-clause-ended
+returns-in-Ok-write_all-2-clause-ended g c = record {
   words_are = search rules;
   report = record {
     text = c.in-Report.text.0;
     runs = c.in-Report.ensures.cause;
-    written = rw c.as_slice.ensures at c.in-Ok-write_all.ensures.whole;
+    written = rw c.as_slice.ensures at c.in-Ok-write_all-2.ensures.whole;
   };
   notes_kept = Appends-nil _;
 }
@@ -43,11 +43,11 @@ returns-in-Report-clause-ended g c = inl (record {
   report = record {
     text = c.in-Report.text.0;
     runs = c.in-Report.ensures.cause;
-    front = rw c.as_slice.ensures at c.in-Err-write_all.ensures.front;
-    rose = c.in-Err-write_all.ensures.cause;
+    front = rw c.as_slice.ensures at c.in-Err-write_all-2.ensures.front;
+    rose = c.in-Err-write_all-2.ensures.cause;
   };
   notes_kept = Appends-nil _;
 })
 
-pub returns-in-Ok-write_all-clause-printed : goal.returns-in-Ok-write_all-clause-printed
-returns-in-Ok-write_all-clause-printed g c = λ _. prints_trusted _ _ _ _ _ c.in-Report.ensures.cause (rw c.as_slice.ensures at c.in-Ok-write_all.ensures.whole)
+pub returns-in-Ok-write_all-2-clause-printed : goal.returns-in-Ok-write_all-2-clause-printed
+returns-in-Ok-write_all-2-clause-printed g c = λ _. prints_trusted _ _ _ _ _ c.in-Report.ensures.cause (rw c.as_slice.ensures at c.in-Ok-write_all-2.ensures.whole)

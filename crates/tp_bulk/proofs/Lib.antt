@@ -1,0 +1,2 @@
+pub mod TxnLemmas
+pub mod Validity

@@ -1,0 +1,112 @@
+//! What the scenario has beside its transactions.
+ghost use Rattle.std.specs.Prelude.{◌≡◌, ◌++◌, ◌<◌, ◌^◌, IfOk, decimal, map};
+ghost use Rattle.std.specs.List.{range_with_len};
+ghost use Rattle.tp_bulk.specs.Bulk.{administrator, allows_all, item_at, server_at};
+
+use itoa::Buffer;
+use std::alloc::Global;
+use tp_types::{
+    Admin, AdminId, Cond, Item, ItemId, List, Name, NoMemory, Pattern, Policy, Rule, ServerDecl,
+    ServerId, Version,
+};
+
+/// A name of these bytes. They spell one.
+pub(crate) fn name(alloc: Global, bytes: &[u8]) -> Result<Name, NoMemory>
+    ensures { IfOk result (λ name. name ≡ bytes.now) }
+{
+    match Name::of(alloc, bytes)? {
+        Some(name) => Ok(name),
+        None => Err(NoMemory),
+    }
+}
+
+/// A name of a letter and a number.
+pub(crate) fn numbered(alloc: Global, letter: &[u8], number: u32) -> Result<Name, NoMemory>
+    ensures { IfOk result (λ name. name ≡ letter.now ++ decimal number) }
+{
+    let mut bytes = Vec::from_slice(alloc, letter)?;
+    bytes.extend_from_slice(Buffer::new().format(number).as_bytes())?;
+    name(alloc, bytes.as_slice())
+}
+
+fn policy(alloc: Global) -> Result<Policy, NoMemory>
+    ensures { IfOk result (λ made. made ≡ allows_all) }
+{
+    let rules = List::of_one(
+        alloc,
+        Rule {
+            action: None,
+            pattern: Pattern::All,
+            cond: Cond::True,
+        },
+    )?;
+    Ok(Policy { rules })
+}
+
+pub(crate) fn admin(alloc: Global) -> Result<Admin, NoMemory>
+    ensures { IfOk result (λ made. made ≡ administrator) }
+{
+    let mut library = List::of_one(alloc, policy(alloc)?)?;
+    library.push(policy(alloc)?)?;
+    Ok(Admin {
+        name: name(alloc, b"hr")?,
+        library,
+        opening: Version(2),
+    })
+}
+
+fn item(alloc: Global, number: u32) -> Result<Item, NoMemory>
+    ensures { IfOk result (λ made. made ≡ item_at number) }
+{
+    Ok(Item {
+        name: numbered(alloc, b"i", number)?,
+        server: ServerId(number / 4),
+        admin: AdminId(0),
+        min: 0,
+        max: 1_000_000,
+        value: 100,
+    })
+}
+
+pub(crate) fn items(alloc: Global) -> Result<List<Item>, NoMemory>
+    ensures { IfOk result (λ made. made ≡ map item_at (range_with_len 0 16)) }
+{
+    let mut items = List::new(alloc);
+    for number in 0..16 {
+        items.push(item(alloc, number)?)?;
+    }
+    Ok(items)
+}
+
+fn items_from(alloc: Global, first: u32) -> Result<List<ItemId>, NoMemory>
+    requires { first < 2 ^ 31 }
+    ensures { IfOk result (λ made.
+        made ≡ map (λ item. record { 0 = item }) (range_with_len first 4)) }
+{
+    let mut items = List::of_one(alloc, ItemId(first))?;
+    items.push(ItemId(first + 1))?;
+    items.push(ItemId(first + 2))?;
+    items.push(ItemId(first + 3))?;
+    Ok(items)
+}
+
+fn server(alloc: Global, number: u32) -> Result<ServerDecl, NoMemory>
+    requires { number < 4 }
+    ensures { IfOk result (λ made. made ≡ server_at number) }
+{
+    Ok(ServerDecl {
+        name: numbered(alloc, b"s", number)?,
+        knows: List::of_one(alloc, Version(number % 2 + 1))?,
+        items: items_from(alloc, 4 * number)?,
+    })
+}
+
+pub(crate) fn servers(alloc: Global) -> Result<List<ServerDecl>, NoMemory>
+    ensures { IfOk result (λ made. made ≡ map server_at (range_with_len 0 4)) }
+{
+    let mut servers = List::new(alloc);
+    for number in 0..4 {
+        servers.push(server(alloc, number)?)?;
+    }
+    Ok(servers)
+}
