@@ -1,1 +1,2 @@
 pub mod Bulk
+pub mod Line

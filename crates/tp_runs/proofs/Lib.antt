@@ -11,6 +11,7 @@ pub mod locked
 pub mod mails
 pub mod outside
 pub mod pairs
+pub mod printable
 pub mod refusals
 pub mod restarts
 pub mod runs

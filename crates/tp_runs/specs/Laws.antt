@@ -1,10 +1,12 @@
 -- What holds of every run of the machine.
-use Rattle.std.specs.Prelude.{◌≡◌, ◌*◌, ◌≤◌, ◌&&◌, Bool, List, length, not, true, ℕ}
+use Rattle.std.specs.Prelude.{◌≡◌, ◌*◌, ◌^◌, ◌<◌, ◌≤◌, ◌&&◌, Bool, List, length, not, true, ℕ}
 use Rattle.tp_model.specs.Words.actor
+use Rattle.tp_model.specs.Words.step
 use Rattle.tp_model.specs.Words.{Scenario, Step, TxnId}
 use Rattle.tp_model.specs.Valid.{is_valid}
 use Rattle.tp_model.specs.SerialRun.{store_of}
 use Rattle.tp_model.specs.TrustedHistory.{TrustedSoFar, have_ended}
+use Rattle.tp_report.specs.Printable.{is_printable}
 use Rattle.tp_machine.specs.declared.actors.Actors.{Actors}
 use Rattle.tp_machine.specs.Machine.{State, after, ending_of, is_armed_at, is_down, is_submitted}
 use Rattle.tp_machine.specs.WorldView.{WorldView}
@@ -68,6 +70,23 @@ abbrev pub SendsFewMails : Type 0
 SendsFewMails =
     (sc : Scenario) (steps : List Step) → is_valid sc ≡ true → Each (IsStepOf sc) steps
     → length (after sc steps).state.mails ≤ mails_most * length steps
+
+-- the numbers that a step says are of 64 bits
+abbrev pub HasNumbers : Step → Type 0
+HasNumbers (step.Tick by) = by < 2 ^ 64
+HasNumbers (step.Lose mail) = mail < 2 ^ 64
+HasNumbers _ = Unit {0}
+
+-- what a state shows may be printed as a report
+abbrev pub IsPrintableState : Scenario → State → Type 0
+IsPrintableState sc w = is_printable sc w.facts (ending_of sc w) ≡ true
+
+-- of every scenario that is run, after every list of fewer than 2^57 steps that name what exists, so that a count of mails
+-- is of 64 bits too
+abbrev pub IsAlwaysPrintable : Type 0
+IsAlwaysPrintable =
+    (sc : Scenario) (steps : List Step) → is_valid sc ≡ true → Each (IsStepOf sc) steps
+    → Each HasNumbers steps → length steps < 2 ^ 57 → IsPrintableState sc (after sc steps).state
 
 -- of every scenario that is run, after every list of steps that name what exists, each record on each actor's log fits
 -- a log

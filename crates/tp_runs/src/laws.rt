@@ -1,5 +1,5 @@
 //! What holds of every run of the machine.
-ghost use Rattle.tp_runs.specs.Laws.{AlwaysFitLogs, HasAlwaysAllCommits, HasAlwaysAllEnds, IsAlwaysTrusted, SendsFewMails};
+ghost use Rattle.tp_runs.specs.Laws.{AlwaysFitLogs, HasAlwaysAllCommits, HasAlwaysAllEnds, IsAlwaysPrintable, IsAlwaysTrusted, SendsFewMails};
 
 /// Of every scenario that is run, after every list of steps that name what exists, in any order, with any mail lost or
 /// delivered again, with timers, and with crashes of servers and coordinators, in a receipt or not, and boots, the history
@@ -27,4 +27,12 @@ pub fn mails_are_few()
 /// fewer than 300,000 bytes.
 pub fn records_fit()
     ensures { AlwaysFitLogs }
+{}
+
+/// Of every scenario that is run, after every list of fewer than 2^57 steps that name what exists, whose numbers are of 64
+/// bits, what it shows may be printed: all that a fact names exists, each number is of its type, a proof of a commit has a
+/// rule, rounds that were spent met something, and each item has a value. What two such runs print can be told apart where
+/// they differ.
+pub fn histories_are_printable()
+    ensures { IsAlwaysPrintable }
 {}

@@ -33,6 +33,8 @@
 //! - Of every scenario that is run, after every list of steps that name what exists, no record on an actor's log is
 //!   too long for a log (`laws::records_fit`); so the world of each such scenario can be started, and its actors force
 //!   what they log without a refusal but for want of memory (`history::start`)
+//! - Of every scenario that is run, after every list of fewer than 2^57 steps that name what exists and whose numbers are
+//!   of 64 bits, what it shows may be printed (`laws::histories_are_printable`)
 //!
 //! These hold after every list of steps, in any order, with losses, timers, deliveries of any mail ever sent, and
 //! crashes and boots of servers and coordinators, where a crash in a receipt leaves the record of that receipt or nothing;

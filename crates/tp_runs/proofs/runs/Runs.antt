@@ -1,5 +1,5 @@
 -- All invariants together, after every list of steps that name what exists.
-use Rattle.std.proofs.Common.{List, None, Option, Some, [], ap, arith, if◌then◌else◌, is_some, length, refl, subst, sym, true, ◌*◌, ◌∙◌, ◌∷◌, ◌≡◌, ◌≤◌}
+use Rattle.std.proofs.Common.{List, None, Option, Some, [], ap, arith, if◌then◌else◌, is_some, length, refl, subst, sym, true, ◌*◌, ◌+◌, ◌<◌, ◌^◌, ◌∙◌, ◌∷◌, ◌≡◌, ◌≤◌}
 use Rattle.tp_model.specs.Agreement.{is_agreed}
 use Rattle.tp_model.specs.Valid.{is_valid}
 use Rattle.tp_model.specs.Causes.{is_caused}
@@ -33,6 +33,8 @@ use Rattle.tp_runs.proofs.mails.World.{FewMails, HasFewMails, few_mails, few_nex
 use Rattle.tp_runs.proofs.outside.Steps.{outside_next, outside_opening}
 use Rattle.tp_runs.proofs.known.Waiting.{wait_rightly}
 use Rattle.tp_runs.proofs.known.World.{Pairs, pairs_next, pairs_opening}
+use Rattle.tp_machine.proofs.basics.Rules.{few_rules}
+use Rattle.tp_runs.proofs.printable.World.{state_printable, steps_kept}
 use Rattle.tp_runs.proofs.refusals.Steps.{refusals_next, refusals_opening}
 use Rattle.tp_runs.proofs.refusals.Running.{Remembers}
 use Rattle.tp_runs.proofs.refusals.Crashes.{refusals_crashed}
@@ -54,7 +56,7 @@ use Rattle.tp_runs.proofs.trust.World.{Trusts}
 use Rattle.tp_runs.proofs.walks.Crashes.{CrashCases, crash_cases_as, crash_cases_both, every_step_by}
 use Rattle.tp_runs.proofs.walks.Steps.{KeepsUp}
 use Rattle.tp_runs.specs.Bounded.{AreBounded}
-use Rattle.tp_runs.specs.Laws.{HasAllCommits, HasAllEnds, IsTrustedState, mails_most}
+use Rattle.tp_runs.specs.Laws.{HasAllCommits, HasAllEnds, HasNumbers, IsPrintableState, IsTrustedState, mails_most}
 use Rattle.tp_machine.specs.Fits.{AllFitLogs}
 use Rattle.tp_machine.specs.Machine.{Machine, State, after, after_step, after_steps, machine_after, opening, opening_state, refusal, state_after}
 use Rattle.tp_types.specs.Each.{Each}
@@ -201,6 +203,18 @@ sends_few sc steps formed exist = omega (arith, few_mails (after sc steps).state
 -- and no record on an actor's log is too long for a log
 pub always_fit : (sc : Scenario) → is_valid sc ≡ true → AllFitLogs sc
 always_fit sc formed steps exist = let h = holds_after sc steps formed exist in all_fit sc (after sc steps).state (valid_of sc formed) h.sound h.sizes
+
+-- and what each shows may be printed
+pub always_printable : (sc : Scenario) (steps : List Step) → is_valid sc ≡ true → Each (IsStepOf sc) steps → Each HasNumbers steps → length steps < 2 ^ 57 → IsPrintableState sc (after sc steps).state
+always_printable sc steps formed exist numbered short =
+    let w = (after sc steps).state in
+    let h = holds_after sc steps formed exist in
+    let valid : IsValid sc = valid_of sc formed in
+    let shown = shows sc w formed h in
+    let counted : length w.steps ≤ length (opening sc).state.steps + length steps = steps_counted sc (opening sc) steps in
+    state_printable sc w (record { valid = valid; homes = have_homes sc valid; few = few_rules sc formed })
+    (record { sound = h.sound; agrees = h.agrees; serial = h.serial; bounded = all_bounded sc w valid h.sound h.bounds; few = few_mails w h.few; outside = h.outside; trusted = shown.trusted; caused = shown.caused })
+    (steps_kept HasNumbers sc (opening sc) steps numbered tt) (omega (arith, counted, short))
 
 -- ---- the same of a world that the steps give
 

@@ -67,7 +67,7 @@ values_from sc servers first (item ∷ items) (value ∷ store) e h =
     next n = omega arith
 
 -- the values at a server, up or down, are those of its log
-values_on_log : (sc : Scenario) (w : State) (at : ServerId) (part : Part Server) (up : Option Server) → IsSound sc w → Serial sc w → slice_get w.actors.servers at.0 ≡ Some part → part.up ≡ up
+pub values_on_log : (sc : Scenario) (w : State) (at : ServerId) (part : Part Server) (up : Option Server) → IsSound sc w → Serial sc w → slice_get w.actors.servers at.0 ≡ Some part → part.up ≡ up
     → values_by_log sc at part.log up ≡ values_in sc part.log
 values_on_log sc w at part None sound h found e = (kept_law sc at part.log (records_of_scenario sc at part.log (sound.actors_are.servers at.0 part found).records)).values
 values_on_log sc w at part (Some s) sound h found e = (up_on_log sc w at part s h found e).values

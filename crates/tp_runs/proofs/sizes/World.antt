@@ -286,7 +286,7 @@ commit_small sc facts place txn declared committed homes there h deeds =
     }
 
 -- a scenario asks for at most 16 rounds
-few_rounds_asked : (sc : Scenario) (declared : Transaction) → is_valid_txn sc declared ≡ true → declared.rounds ≤ 16
+pub few_rounds_asked : (sc : Scenario) (declared : Transaction) → is_valid_txn sc declared ≡ true → declared.rounds ≤ 16
 few_rounds_asked sc declared e =
     let rules = and_parts (has_valid_creds sc declared && is_from_to 1 16 declared.rounds) (has_count 1 16 declared.queries && list_all (is_valid_query sc) declared.queries && not (list_any (is_name_of_server declared) sc.servers)) e in
     from_to_most declared.rounds (and_parts (has_valid_creds sc declared) (is_from_to 1 16 declared.rounds) rules.0).1
