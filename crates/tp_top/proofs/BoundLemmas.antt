@@ -12,7 +12,7 @@ use Rattle.tp_runs.specs.Laws.{mails_most}
 use Rattle.tp_top.specs.mirrors.Answers.{IsListed}
 use Rattle.tp_top.proofs.TrustedRun.{listed_steps}
 
-few_steps : (sc : Scenario) → is_valid sc ≡ true → length sc.steps ≤ 100000
+pub few_steps : (sc : Scenario) → is_valid sc ≡ true → length sc.steps ≤ 100000
 few_steps sc h = count_most 0 steps_limit (length sc.steps) (and_parts (has_count 0 steps_limit sc.steps) (list_all (is_valid_step sc) sc.steps) (rules_of sc h).steps).0
 
 -- a world after its listed steps has few of them, as these send at most 128 times as many mails

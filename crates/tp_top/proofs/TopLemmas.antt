@@ -1,28 +1,34 @@
--- Each cause in a told input has its status.
-use Rattle.std.proofs.Common.{◌≡◌, inl, inr, ℕ, zero, suc, ◌+◌, ◌<◌, List, [], ◌∷◌, ◌++◌, length, slice_get, true, false, Option, Some, None, option_map, Result, Ok, Err, refl, sym, ap, subst, ◌∙◌, arith}
-use Rattle.std.specs.List.{list_all}
-use Rattle.std.specs.Option.{option_map_or, option_or}
+-- Each cause in a told input has its status, and each command what it asks for.
+use Rattle.std.proofs.Common.{◌≡◌, inl, inr, ℕ, ◌+◌, ◌*◌, ◌<◌, ◌≤◌, ◌==◌, ◌&&◌, Bool, List, [], ◌++◌, length, nat_le, true, false, Option, Some, None, option_and_then, Result, Ok, Err, codes, if◌then◌else◌, refl, sym, ap, subst, ◌∙◌, arith}
+use Rattle.std.proofs.lemmas.Bool.{leb-true}
 use Rattle.std.proofs.lemmas.List.{length-append, append-nil}
+use Rattle.std.proofs.lemmas.Option.{same_Some}
+use Rattle.std.specs.Cmp.Lexicographic.{pointwise}
 use Rattle.std.specs.Prelude.{IfSome}
 use Rattle.std.specs.Io.KnownBytes.{Appends, Consumes}
-use Rattle.tp_model.specs.Words.step
-use Rattle.tp_model.specs.Words.{Actor, Scenario, Step, TxnId}
+use Rattle.tp_bulk.specs.Bulk.{scenario_of}
+use Rattle.tp_model.specs.Words.{Scenario, Text}
 use Rattle.tp_scenario.proofs.ReadLemmas.{says_one}
 use Rattle.tp_io.specs.Whole.{TakesAtMost, TakesExactly, input_max}
 use Rattle.tp_scenario.specs.declared.from_bytes.ScenarioError.{ScenarioError}
 use Rattle.tp_scenario.specs.declared.from_bytes.ScenarioError.TheVariants as error
 use Rattle.tp_top.specs.declared.status.Status.{Status}
-use Rattle.tp_top.specs.declared.status.Status.TheVariants.{Done, Refused, NoMemory, Budget}
-use Rattle.tp_machine.specs.declared.actors.Actors.{Actors}
-use Rattle.tp_machine.specs.Machine.{Machine, after_step, ending_of}
-use Rattle.tp_auto.specs.Auto.{automatic_from, cursor_after, first_armed, is_quiet, lowest_down, lowest_unsubmitted, next_by, next_of}
-use Rattle.tp_top.specs.Headline.{PrintsTrusted, comes_by_itself}
+use Rattle.tp_top.specs.declared.status.Status.TheVariants.{Done, Refused, ReadFault, NoMemory, Budget}
+use Rattle.tp_machine.specs.Machine.{ending_of}
+use Rattle.tp_auto.specs.Auto.{is_quiet}
+use Rattle.tp_top.proofs.ByThemselves.{automatic_by_themselves}
+use Rattle.tp_top.specs.Headline.{CountsTrusted, PrintsTrusted}
 use Rattle.tp_top.specs.Refusals.{refusal_line, step_line}
 use Rattle.tp_top.specs.Input.{AreRefused, Reads, TakesAll}
-use Rattle.tp_top.specs.Run.{HasRefusal, IsInputRefused, RefusesStep, RunsOut, RunsTo, TakesRefused, after_listed, automatic, automatic_bound, final, first_refused}
+use Rattle.tp_top.specs.Run.{ComesToRest, FailsFor, HasNoEnd, HasNoRest, HasRefusal, HasText, IsBulk, IsInputRefused, IsLine, IsOfCommand, IsRun, RefusesFor, RefusesStep, RunsOut, RunsTo, TakesRefused, after_listed, automatic, automatic_bound, final, first_refused}
 use Rattle.tp_top.specs.declared.listed.StepRefusal.{StepRefusal}
-use Rattle.std.proofs.lemmas.Option.{same_Some}
-use Rattle.tp_top.specs.Top.{EndsRightly}
+use Rattle.tp_top.specs.Top.{EndsCounted, EndsRightly}
+use Rattle.tp_types.specs.Faults.{Rose}
+use Rattle.tp_types.specs.Spelling.{number_of}
+use Rattle.tp_words.proofs.TextLemmas.{one_command}
+use Rattle.tp_words.specs.Commands.{IsCommand, bulk_by, bulk_of, command_by, run_alone}
+use Rattle.tp_words.specs.declared.commands.Command.{Command}
+use Rattle.tp_words.specs.declared.commands.Command.TheVariants.{Bulk, Run}
 
 nothing_consumed : (left : Option (List ℕ)) → Consumes left left []
 nothing_consumed None = tt
@@ -44,38 +50,12 @@ long_input input (Some rest) t = omega (arith, t.exact, ap length t.consumed, le
 
 -- ---- the headline
 
-chosen_by_itself : (make : TxnId → Step) → ((txn : TxnId) → comes_by_itself (make txn) ≡ true) → (found : Option TxnId) (taken : Step) → option_map make found ≡ Some taken → comes_by_itself taken ≡ true
-chosen_by_itself make made None taken e = absurd (cc)
-chosen_by_itself make made (Some txn) taken e = subst (λ (s : Step). comes_by_itself s ≡ true) (same_Some (make txn) taken e) (made txn)
-
-unasked_by_itself : (found armed : Option TxnId) (taken : Step) → option_or (option_map (λ (txn : TxnId). step.Submit txn) found) (option_map (λ (txn : TxnId). step.Timer txn) armed) ≡ Some taken → comes_by_itself taken ≡ true
-unasked_by_itself None armed taken e = chosen_by_itself (λ (txn : TxnId). step.Timer txn) (λ txn. refl) armed taken e
-unasked_by_itself (Some txn) armed taken e = chosen_by_itself (λ (t : TxnId). step.Submit t) (λ t. refl) (Some txn) taken e
-
-running_by_itself : (sc : Scenario) (actors : Actors) (cursor : ℕ) (oldest : Option ℕ) (taken : Step) → next_by sc actors cursor oldest ≡ Some taken → comes_by_itself taken ≡ true
-running_by_itself sc actors cursor None taken e = unasked_by_itself (lowest_unsubmitted sc actors) (first_armed sc actors cursor) taken e
-running_by_itself sc actors cursor (Some mail) taken e = subst (λ (s : Step). comes_by_itself s ≡ true) (same_Some (step.Deliver mail) taken e) refl
-
-next_by_itself : (sc : Scenario) (m : Machine) (cursor : ℕ) (down : Option Actor) (taken : Step) → option_or (option_map (λ (who : Actor). step.Boot who) down) (next_by sc m.state.actors cursor (slice_get m.undelivered 0)) ≡ Some taken
-    → comes_by_itself taken ≡ true
-next_by_itself sc m cursor None taken e = running_by_itself sc m.state.actors cursor (slice_get m.undelivered 0) taken e
-next_by_itself sc m cursor (Some who) taken e = subst (λ (s : Step). comes_by_itself s ≡ true) (same_Some (step.Boot who) taken e) refl
-
-rest_by_themselves : (sc : Scenario) (left cursor : ℕ) (m : Machine) (next : Option Step) → next_of sc m cursor ≡ next → ((after : ℕ) (k : Machine) → list_all comes_by_itself (automatic_from sc left after k) ≡ true)
-    → list_all comes_by_itself (option_map_or (λ (taken : Step). taken ∷ automatic_from sc left (cursor_after taken cursor) (after_step sc m taken)) next []) ≡ true
-rest_by_themselves sc left cursor m None e rest = refl
-rest_by_themselves sc left cursor m (Some taken) e rest =
-    let here : comes_by_itself taken ≡ true = next_by_itself sc m cursor (lowest_down sc m.state.actors) taken e in
-    let later : list_all comes_by_itself (automatic_from sc left (cursor_after taken cursor) (after_step sc m taken)) ≡ true = rest (cursor_after taken cursor) (after_step sc m taken) in
-    grind arith
-
--- the automatic steps come by themselves
-automatic_by_themselves : (sc : Scenario) (count cursor : ℕ) (m : Machine) → list_all comes_by_itself (automatic_from sc count cursor m) ≡ true
-automatic_by_themselves sc zero cursor m = refl
-automatic_by_themselves sc (suc left) cursor m = rest_by_themselves sc left cursor m (next_of sc m cursor) refl (λ after k. automatic_by_themselves sc left after k)
+-- the mails are few for the steps that were done
+few_by_steps : (sc : Scenario) → ComesToRest sc → length (final sc).state.mails ≤ 128 * length (final sc).state.steps
+few_by_steps sc h = omega (arith, h.few_mails, h.trusted.steps_are)
 
 -- what a run comes to is a trusted history whose steps begin with the listed ones, and its report was written
-pub prints_trusted : (input input' out out' : Option (List ℕ)) (text : List ℕ) → RunsTo input input' text → Appends out out' text → PrintsTrusted input input' out out'
+prints_trusted : (input input' out out' : Option (List ℕ)) (text : List ℕ) → RunsTo input input' text → Appends out out' text → PrintsTrusted input input' out out'
 prints_trusted input input' out out' text r written =
     record {
       bytes = r.bytes;
@@ -86,8 +66,23 @@ prints_trusted input input' out out' text r written =
       taken = r.taken;
       read = r.reads;
       by_themselves = automatic_by_themselves r.scenario (automatic_bound r.scenario) 0 (after_listed r.scenario);
-      trusted = r.trusted;
+      trusted = r.rests.trusted;
+      few_mails = few_by_steps r.scenario r.rests;
+      printable = r.rests.printable;
       written = subst (Appends out out') r.text_is written;
+    }
+
+counts_trusted : (count : ℕ) (out out' : Option (List ℕ)) (text : List ℕ) → IsLine count text → Appends out out' text → CountsTrusted count out out'
+counts_trusted count out out' text h written =
+    let sc = scenario_of count in
+    record {
+      later = automatic sc;
+      facts = (final sc).state.facts;
+      ending = ending_of sc (final sc).state;
+      by_themselves = automatic_by_themselves sc (automatic_bound sc) 0 (after_listed sc);
+      trusted = h.rests.trusted;
+      few_mails = few_by_steps sc h.rests;
+      written = subst (Appends out out') h.text_is written;
     }
 
 -- ---- the causes exclude one another
@@ -133,7 +128,7 @@ quiet_or_restless bytes one other r s quiet restless =
 -- ---- the statuses
 
 -- want of memory may come for every cause
-pub memory_rightly : (input : List ℕ) (notes notes' : Option (List ℕ)) → EndsRightly input NoMemory notes notes'
+memory_rightly : (input : List ℕ) (notes notes' : Option (List ℕ)) → EndsRightly input NoMemory notes notes'
 memory_rightly input notes notes' =
     record {
       too_long = λ _. inr refl;
@@ -144,27 +139,27 @@ memory_rightly input notes notes' =
     }
 
 -- a report comes of a scenario whose run comes to rest
-pub report_rightly : (input : List ℕ) (left' : Option (List ℕ)) (text : List ℕ) (notes notes' : Option (List ℕ))
+report_rightly : (input : List ℕ) (left' : Option (List ℕ)) (text : List ℕ) (notes notes' : Option (List ℕ))
     → RunsTo (Some input) left' text → EndsRightly input Done notes notes'
 report_rightly input left' text notes notes' r =
     let reads : Reads input r.scenario = subst (λ (bs : List ℕ). Reads bs r.scenario) (whole_input input left' r.bytes r.taken) r.reads in
     record {
       too_long = λ long. absurd (refused_or_read input error.TooLong r.scenario (long_refused input long) reads);
       refused = λ why s. absurd (refused_or_read input why r.scenario s reads);
-      stopped = λ sc refused other e. absurd (refused_or_lawful input sc r.scenario refused other reads e r.lawful);
+      stopped = λ sc refused other e. absurd (refused_or_lawful input sc r.scenario refused other reads e r.rests.lawful);
       at_rest = λ _ _ _ _. inl refl;
-      restless = λ sc other _ restless. absurd (quiet_or_restless input r.scenario sc reads other r.quiet restless);
+      restless = λ sc other _ restless. absurd (quiet_or_restless input r.scenario sc reads other r.rests.quiet restless);
     }
 
 -- the bound is met by a scenario whose run does not come to rest
-pub budget_rightly : (input : List ℕ) (left' notes notes' : Option (List ℕ)) → RunsOut (Some input) left' → EndsRightly input Budget notes notes'
+budget_rightly : (input : List ℕ) (left' notes notes' : Option (List ℕ)) → RunsOut (Some input) left' → EndsRightly input Budget notes notes'
 budget_rightly input left' notes notes' r =
     let reads : Reads input r.scenario = subst (λ (bs : List ℕ). Reads bs r.scenario) (whole_input input left' r.bytes r.taken) r.reads in
     record {
       too_long = λ long. absurd (refused_or_read input error.TooLong r.scenario (long_refused input long) reads);
       refused = λ why s. absurd (refused_or_read input why r.scenario s reads);
-      stopped = λ sc refused other e. absurd (refused_or_lawful input sc r.scenario refused other reads e r.lawful);
-      at_rest = λ sc other _ quiet. absurd (quiet_or_restless input sc r.scenario other reads quiet r.restless);
+      stopped = λ sc refused other e. absurd (refused_or_lawful input sc r.scenario refused other reads e r.goes_on.lawful);
+      at_rest = λ sc other _ quiet. absurd (quiet_or_restless input sc r.scenario other reads quiet r.goes_on.restless);
       restless = λ _ _ _ _. inl refl;
     }
 
@@ -235,14 +230,117 @@ pub memory_complete : (left notes notes' : Option (List ℕ)) → Complete left 
 memory_complete None notes notes' = tt
 memory_complete (Some input) notes notes' = memory_rightly input notes notes'
 
-pub report_complete : (left left' : Option (List ℕ)) (text : List ℕ) (notes notes' : Option (List ℕ)) → RunsTo left left' text → Complete left Done notes notes'
+report_complete : (left left' : Option (List ℕ)) (text : List ℕ) (notes notes' : Option (List ℕ)) → RunsTo left left' text → Complete left Done notes notes'
 report_complete None left' text notes notes' r = tt
 report_complete (Some input) left' text notes notes' r = report_rightly input left' text notes notes' r
 
-pub budget_complete : (left left' notes notes' : Option (List ℕ)) → RunsOut left left' → Complete left Budget notes notes'
+budget_complete : (left left' notes notes' : Option (List ℕ)) → RunsOut left left' → Complete left Budget notes notes'
 budget_complete None left' notes notes' r = tt
 budget_complete (Some input) left' notes notes' r = budget_rightly input left' notes notes' r
 
-pub refusal_complete : (left left' notes notes' : Option (List ℕ)) (line : List ℕ) → HasRefusal left left' line → Appends notes notes' line → Complete left Refused notes notes'
+refusal_complete : (left left' notes notes' : Option (List ℕ)) (line : List ℕ) → HasRefusal left left' line → Appends notes notes' line → Complete left Refused notes notes'
 refusal_complete None left' notes notes' line r written = tt
 refusal_complete (Some input) left' notes notes' line r written = line_rightly input left' notes notes' line r written
+
+-- ---- by the command
+
+not_both : (words : List Text) (count : ℕ) → IsBulk words count → IsRun words → ⊥
+not_both words count bulk run = let same = one_command words (Bulk count) Run bulk run in cc
+
+same_count : (words : List Text) (count other : ℕ) → IsBulk words count → IsBulk words other → count ≡ other
+same_count words count other one two = let same = one_command words (Bulk count) (Bulk other) one two in cc
+
+pub prints_by : (words : List Text) (command : Command) (input input' out out' : Option (List ℕ)) (text : List ℕ) → IsCommand words command → IsRun words → HasText command input input' text → Appends out out' text → PrintsTrusted input input' out out'
+prints_by words Run input input' out out' text are run has written = prints_trusted input input' out out' text has written
+prints_by words (Bulk count) input input' out out' text are run has written = absurd (not_both words count are run)
+
+pub counts_by : (words : List Text) (command : Command) (count : ℕ) (input input' out out' : Option (List ℕ)) (text : List ℕ) → IsCommand words command → IsBulk words count → HasText command input input' text → Appends out out' text → CountsTrusted count out out'
+counts_by words Run count input input' out out' text are bulk has written = absurd (not_both words count bulk are)
+counts_by words (Bulk other) count input input' out out' text are bulk has written =
+    counts_trusted count out out' text (subst (λ (n : ℕ). IsLine n text) (same_count words other count are bulk) has) written
+
+pub text_complete : (words : List Text) (command : Command) (left left' : Option (List ℕ)) (text : List ℕ) (notes notes' : Option (List ℕ)) → IsCommand words command → IsRun words → HasText command left left' text → Complete left Done notes notes'
+text_complete words Run left left' text notes notes' are run has = report_complete left left' text notes notes' has
+text_complete words (Bulk count) left left' text notes notes' are run has = absurd (not_both words count are run)
+
+pub end_complete : (words : List Text) (command : Command) (left left' notes notes' : Option (List ℕ)) → IsCommand words command → IsRun words → HasNoEnd command left left' → Complete left Budget notes notes'
+end_complete words Run left left' notes notes' are run has = budget_complete left left' notes notes' has
+end_complete words (Bulk count) left left' notes notes' are run has = absurd (not_both words count are run)
+
+pub refused_complete : (words : List Text) (command : Command) (left left' notes notes' : Option (List ℕ)) (line : List ℕ) → IsCommand words command → IsRun words → RefusesFor command left left' line → Appends notes notes' line
+    → Complete left Refused notes notes'
+refused_complete words Run left left' notes notes' line are run r written = refusal_complete left left' notes notes' line r written
+refused_complete words (Bulk count) left left' notes notes' line are run r written = absurd r
+
+pub failed_complete : (command : Command) (left left' notes notes' : Option (List ℕ)) (faults faults' : ℕ) → FailsFor command left left' faults faults' → (Rose faults faults' → ⊥) → Complete left ReadFault notes notes'
+failed_complete Run left left' notes notes' faults faults' fails none = absurd (none fails.0)
+failed_complete (Bulk count) left left' notes notes' faults faults' fails none = absurd fails
+
+-- ---- the large scenario
+
+pub memory_counted : (count : ℕ) → EndsCounted count NoMemory
+memory_counted count = record { at_rest = λ _. inr refl; restless = λ _. inr refl }
+
+line_counted : (count : ℕ) (text : List ℕ) → IsLine count text → EndsCounted count Done
+line_counted count text h = record { at_rest = λ _. inl refl; restless = λ restless. absurd (contrary h.rests.quiet restless) }
+  where
+    contrary : {b : Bool} → b ≡ true → b ≡ false → ⊥
+    contrary quiet restless = cc
+
+restless_counted : (count : ℕ) → HasNoRest (scenario_of count) → EndsCounted count Budget
+restless_counted count h = record { at_rest = λ quiet. absurd (contrary quiet h.restless); restless = λ _. inl refl }
+  where
+    contrary : {b : Bool} → b ≡ true → b ≡ false → ⊥
+    contrary quiet restless = cc
+
+pub text_counted : (words : List Text) (command : Command) (count : ℕ) (left left' : Option (List ℕ)) (text : List ℕ) → IsCommand words command → IsBulk words count → HasText command left left' text → EndsCounted count Done
+text_counted words Run count left left' text are bulk has = absurd (not_both words count bulk are)
+text_counted words (Bulk other) count left left' text are bulk has = line_counted count text (subst (λ (n : ℕ). IsLine n text) (same_count words other count are bulk) has)
+
+pub end_counted : (words : List Text) (command : Command) (count : ℕ) (left left' : Option (List ℕ)) → IsCommand words command → IsBulk words count → HasNoEnd command left left' → EndsCounted count Budget
+end_counted words Run count left left' are bulk has = absurd (not_both words count bulk are)
+end_counted words (Bulk other) count left left' are bulk has = restless_counted count (subst (λ (n : ℕ). HasNoRest (scenario_of n)) (same_count words other count are bulk) has)
+
+pub refused_counted : (words : List Text) (command : Command) (count : ℕ) (status : Status) (left left' : Option (List ℕ)) (line : List ℕ) → IsCommand words command → IsBulk words count → RefusesFor command left left' line → EndsCounted count status
+refused_counted words Run count status left left' line are bulk r = absurd (not_both words count bulk are)
+refused_counted words (Bulk other) count status left left' line are bulk r = absurd r
+
+pub failed_counted : (words : List Text) (command : Command) (count : ℕ) (status : Status) (left left' : Option (List ℕ)) (faults faults' : ℕ) → IsCommand words command → IsBulk words count → FailsFor command left left' faults faults' → EndsCounted count status
+failed_counted words Run count status left left' faults faults' are bulk r = absurd (not_both words count bulk are)
+failed_counted words (Bulk other) count status left left' faults faults' are bulk r = absurd r
+
+-- ---- a number of transactions
+
+bulk_within : (count other : ℕ) → bulk_by count ≡ Some (Bulk other) → IsOfCommand (Bulk other)
+bulk_within count other e = by_tests (nat_le 1 count) (nat_le count 128) refl refl e
+  where
+    by_tests : (least most : Bool) → nat_le 1 count ≡ least → nat_le count 128 ≡ most → (if least && most then Some (Bulk count) else None) ≡ Some (Bulk other) → IsOfCommand (Bulk other)
+    by_tests true true low high f = let same : count ≡ other = cc in subst (λ (n : ℕ). IsOfCommand (Bulk n)) same (leb-true 1 count low, leb-true count 128 high)
+    by_tests true false low high f = absurd (cc)
+    by_tests false most low high f = absurd (cc)
+
+number_within : (found : Option ℕ) (other : ℕ) → option_and_then bulk_by found ≡ Some (Bulk other) → IsOfCommand (Bulk other)
+number_within None other e = absurd (cc)
+number_within (Some count) other e = bulk_within count other e
+
+word_within : (word : Option (List ℕ)) (other : ℕ) → option_and_then bulk_of word ≡ Some (Bulk other) → IsOfCommand (Bulk other)
+word_within None other e = absurd (cc)
+word_within (Some bytes) other e = number_within (number_of bytes) other e
+
+run_is_not : (word : Option (List ℕ)) (other : ℕ) → run_alone word ≡ Some (Bulk other) → ⊥
+run_is_not None other e = cc
+run_is_not (Some bytes) other e = cc
+
+named_within : (word : Option (List ℕ)) (other : ℕ) (runs bulks : Bool) → (if runs then run_alone word else if bulks then option_and_then bulk_of word else None) ≡ Some (Bulk other) → IsOfCommand (Bulk other)
+named_within word other true bulks e = absurd (run_is_not word other e)
+named_within word other false true e = word_within word other e
+named_within word other false false e = absurd (cc)
+
+first_within : (first second : Option (List ℕ)) (other : ℕ) → command_by first second ≡ Some (Bulk other) → IsOfCommand (Bulk other)
+first_within None second other e = absurd (cc)
+first_within (Some name) second other e = named_within second other (pointwise ◌==◌ name (codes "run")) (pointwise ◌==◌ name (codes "bulk")) e
+
+-- words that are a command name from 1 to 128 transactions
+pub of_command : (words : List Text) (command : Command) → IsCommand words command → IsOfCommand command
+of_command words Run h = tt
+of_command words (Bulk count) h = first_within h.first h.second count h.command_is

@@ -38,7 +38,7 @@ sent_new before after undelivered le h =
     (each_as (λ (number : ℕ). number < length before.mails) (λ (number : ℕ). number < length after.mails) (λ number low. omega (arith, low, le)) undelivered h)
     (below (length before.mails) (length after.mails - length before.mails) (length after.mails) (omega (arith, le)))
 
-more_mails : (w : State) (taken : Step) (move : Move) → length w.mails ≤ length (state_after w taken move).mails
+pub more_mails : (w : State) (taken : Step) (move : Move) → length w.mails ≤ length (state_after w taken move).mails
 more_mails w taken move = omega (arith, length-append w.mails (mails_of (length w.steps) (length w.mails) move.letters))
 
 sent_after : (w : State) (taken : Step) (move : Move) (undelivered : List ℕ) → Each (λ (number : ℕ). number < length w.mails) undelivered → AreSent (with_new w (state_after w taken move) undelivered)
@@ -121,7 +121,7 @@ next_done sc m cursor (Some who) taken h e f =
 -- ---- steps that are done
 
 -- they name what exists, and are the steps that the machine then has
-record AreDone (sc : Scenario) (m : Machine) (steps : List Step) : Type 0 where
+pub record AreDone (sc : Scenario) (m : Machine) (steps : List Step) : Type 0 where
   pub exist : Each (IsStepOf sc) steps
   pub steps_are : (after_steps sc m steps).state.steps ≡ m.state.steps ++ steps
 
@@ -187,7 +187,7 @@ listed_sent sc m at (taken ∷ steps) none h =
     (listed_sent sc (machine_after sc m taken) (at + 1) steps n.rest (sent_next sc m taken h))
 
 -- all steps name what exists, and are the steps of the last machine
-all_done : (sc : Scenario) → is_valid sc ≡ true → first_refused sc ≡ None → AreDone sc (opening sc) (all_steps sc)
+pub all_done : (sc : Scenario) → is_valid sc ≡ true → first_refused sc ≡ None → AreDone sc (opening sc) (all_steps sc)
 all_done sc formed lawful =
     done_after sc (opening sc) sc.steps (automatic sc)
     (listed_done sc (opening sc) 0 sc.steps (listed_exist sc formed) lawful)

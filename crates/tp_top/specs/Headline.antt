@@ -1,11 +1,15 @@
--- The headline, which names no machine: what was printed is the report of a trusted history of what was read.
-use Rattle.std.specs.Prelude.{Bool, List, Option, false, true, ℕ, ◌++◌, ◌≡◌}
+-- The headline, which names no machine: what was printed is the report of a trusted history of what was read, or the line of one of the
+-- large scenario.
+use Rattle.std.specs.Prelude.{Bool, List, Option, false, true, ℕ, ◌*◌, ◌++◌, ◌≡◌, ◌≤◌}
 use Rattle.std.specs.Io.KnownBytes.{Appends}
 use Rattle.std.specs.List.{list_all}
 use Rattle.tp_model.specs.TrustedHistory.{TrustedHistory}
 use Rattle.tp_model.specs.Words.step
 use Rattle.tp_model.specs.Words.{Ending, Fact, Scenario, Step}
 use Rattle.tp_top.specs.Input.{Reads, TakesAll}
+use Rattle.tp_bulk.specs.Bulk.{scenario_of}
+use Rattle.tp_bulk.specs.Line.{line_of}
+use Rattle.tp_report.specs.Printable.{is_printable}
 use Rattle.tp_report.specs.ReportText.{report_text}
 
 -- a step that the automatic phase may take: a submission of a transaction, the delivery of a mail, a timer, or a boot
@@ -17,7 +21,7 @@ comes_by_itself (step.Boot who) = true
 comes_by_itself _ = false
 
 -- the input was read whole as a scenario, and exactly the report of a trusted history of it was written, whose steps are the listed ones and then such
--- as come by themselves
+-- as come by themselves; it has few mails, and what is printed can be read back
 pub record PrintsTrusted (input input' out out' : Option (List ℕ)) : Type 0 where
   pub bytes : List ℕ
   pub scenario : Scenario
@@ -28,4 +32,16 @@ pub record PrintsTrusted (input input' out out' : Option (List ℕ)) : Type 0 wh
   pub read : Reads bytes scenario
   pub by_themselves : list_all comes_by_itself later ≡ true
   pub trusted : TrustedHistory scenario (scenario.steps ++ later) facts ending
+  pub few_mails : ending.mails ≤ 128 * ending.steps
+  pub printable : is_printable scenario facts ending ≡ true
   pub written : Appends out out' (report_text scenario facts ending)
+
+-- exactly the line of a trusted history of the large scenario was written, whose steps are the listed ones and then such as come by themselves
+pub record CountsTrusted (count : ℕ) (out out' : Option (List ℕ)) : Type 0 where
+  pub later : List Step
+  pub facts : List Fact
+  pub ending : Ending
+  pub by_themselves : list_all comes_by_itself later ≡ true
+  pub trusted : TrustedHistory (scenario_of count) ((scenario_of count).steps ++ later) facts ending
+  pub few_mails : ending.mails ≤ 128 * ending.steps
+  pub written : Appends out out' (line_of count facts ending)

@@ -1,18 +1,21 @@
 -- What the top call promises at each status: what was read, what was written, and why.
-use Rattle.std.specs.Prelude.{◌≡◌, ◌⊎◌, ◌<◌, ℕ, ◌+◌, List, [], length, true, false, Option, Some, None}
+use Rattle.std.specs.Prelude.{◌≡◌, ◌⊎◌, ◌<◌, ℕ, List, [], length, true, false, Option, Some, None}
 use Rattle.std.specs.Io.KnownBytes.{Appends}
 use Rattle.tp_model.specs.Words.{Scenario, Text}
 use Rattle.tp_types.specs.Faults.{Rose}
-use Rattle.tp_io.specs.Whole.{AppendsFront, TakesAtMost, input_max}
+use Rattle.tp_io.specs.Whole.{AppendsFront, input_max}
 use Rattle.tp_scenario.specs.declared.from_bytes.ScenarioError.{ScenarioError}
 use Rattle.tp_scenario.specs.declared.from_bytes.ScenarioError.TheVariants as error
 use Rattle.tp_top.specs.declared.status.Status.{Status}
 use Rattle.tp_top.specs.declared.status.Status.TheVariants.{Done, Refused, Usage, ReadFault, WriteFault, NoMemory, Budget}
 use Rattle.tp_top.specs.declared.listed.StepRefusal.{StepRefusal}
 use Rattle.tp_auto.specs.Auto.{is_quiet}
+use Rattle.tp_bulk.specs.Bulk.{scenario_of}
+use Rattle.tp_words.specs.Commands.{IsCommand, IsNoCommand}
+use Rattle.tp_words.specs.declared.commands.Command.{Command}
 use Rattle.tp_top.specs.Refusals.{refusal_line, step_line, usage_line}
 use Rattle.tp_top.specs.Input.{AreRefused, Reads}
-use Rattle.tp_top.specs.Run.{IsRun, HasRefusal, RunsOut, RunsTo, final, first_refused}
+use Rattle.tp_top.specs.Run.{FailsFor, HasNoEnd, HasText, RefusesFor, final, first_refused}
 
 -- what a call saw of a stream: what it tells before the call and after it, and its counts of faults
 pub record Stream : Type 0 where
@@ -36,69 +39,45 @@ IsUntouched sink = Appends sink.old sink.new []
 abbrev pub HasFailed : Stream → Type 0
 HasFailed stream = Rose stream.faults_old stream.faults_new
 
--- the input was read whole as a scenario whose run comes to rest, and exactly its report was written
-pub record WritesReport (input out : Stream) : Type 0 where
-  pub text : List ℕ
-  pub runs : RunsTo input.old input.new text
-  pub written : Appends out.old out.new text
-
--- the input, or a listed step of it, was refused, and exactly the line that says why was written
-pub record WritesRefusal (input notes : Stream) : Type 0 where
-  pub line : List ℕ
-  pub cause : HasRefusal input.old input.new line
-  pub written : Appends notes.old notes.new line
-
--- the report was to be written, and the sink failed after a part of it
-pub record FailsInReport (input out : Stream) : Type 0 where
-  pub text : List ℕ
-  pub runs : RunsTo input.old input.new text
-  pub front : AppendsFront out.old out.new text
-  pub rose : HasFailed out
-
--- the line of a refusal was to be written, and the sink failed after a part of it
-pub record FailsInRefusal (input notes : Stream) : Type 0 where
-  pub line : List ℕ
-  pub cause : HasRefusal input.old input.new line
-  pub front : AppendsFront notes.old notes.new line
-  pub rose : HasFailed notes
-
--- the line on usage was to be written, and the sink failed after a part of it
-pub record FailsInUsage (notes : Stream) : Type 0 where
-  pub front : AppendsFront notes.old notes.new usage_line
-  pub rose : HasFailed notes
-
 -- ---- at each status
 
--- the words are the command run, the report was written to out, and nothing to notes
+-- the words are a command, what it asks for was written to out, and nothing to notes
 pub record IsDone (call : Call) : Type 0 where
-  pub words_are : IsRun call.words
-  pub report : WritesReport call.input call.out
+  pub command : Command
+  pub words_are : IsCommand call.words command
+  pub text : List ℕ
+  pub has : HasText command call.input.old call.input.new text
+  pub written : Appends call.out.old call.out.new text
   pub notes_kept : IsUntouched call.notes
 
--- the words are the command run, the refusal was written to notes, and nothing to out
+-- the words are a command, which is refused; the line that says why was written to notes, and nothing to out
 pub record IsRefused (call : Call) : Type 0 where
-  pub words_are : IsRun call.words
-  pub refusal : WritesRefusal call.input call.notes
+  pub command : Command
+  pub words_are : IsCommand call.words command
+  pub line : List ℕ
+  pub cause : RefusesFor command call.input.old call.input.new line
+  pub written : Appends call.notes.old call.notes.new line
   pub out_kept : IsUntouched call.out
 
--- the words are not the command run, the line on usage was written to notes, and nothing to out
+-- the words are no command, the line on usage was written to notes, and nothing to out
 pub record IsUsage (call : Call) : Type 0 where
-  pub no_command : ¬ (IsRun call.words)
+  pub no_command : IsNoCommand call.words
   pub written : Appends call.notes.old call.notes.new usage_line
   pub out_kept : IsUntouched call.out
 
--- the words are the command run, the input failed after a part of it, and nothing was written
+-- the words are a command, the input failed after a part of it, and nothing was written
 pub record IsReadFault (call : Call) : Type 0 where
-  pub words_are : IsRun call.words
-  pub rose : HasFailed call.input
-  pub taken : TakesAtMost (input_max + 1) call.input.old call.input.new
+  pub command : Command
+  pub words_are : IsCommand call.words command
+  pub fails : FailsFor command call.input.old call.input.new call.input.faults_old call.input.faults_new
   pub out_kept : IsUntouched call.out
   pub notes_kept : IsUntouched call.notes
 
--- the words are the command run, the automatic steps came to their bound, and nothing was written
+-- the words are a command, the automatic steps of its run came to their bound, and nothing was written
 pub record IsBudget (call : Call) : Type 0 where
-  pub words_are : IsRun call.words
-  pub runs_out : RunsOut call.input.old call.input.new
+  pub command : Command
+  pub words_are : IsCommand call.words command
+  pub goes_on : HasNoEnd command call.input.old call.input.new
   pub out_kept : IsUntouched call.out
   pub notes_kept : IsUntouched call.notes
 
@@ -107,22 +86,31 @@ pub record IsNoMemory (call : Call) : Type 0 where
   pub out_kept : IsUntouched call.out
   pub notes_kept : IsUntouched call.notes
 
--- out failed in the report, and notes were kept
+-- out failed after a part of what the command asks for, and notes were kept
 pub record IsOutFault (call : Call) : Type 0 where
-  pub words_are : IsRun call.words
-  pub report : FailsInReport call.input call.out
+  pub command : Command
+  pub words_are : IsCommand call.words command
+  pub text : List ℕ
+  pub has : HasText command call.input.old call.input.new text
+  pub front : AppendsFront call.out.old call.out.new text
+  pub rose : HasFailed call.out
   pub notes_kept : IsUntouched call.notes
 
--- notes failed in the line of a refusal, and out was kept
+-- notes failed after a part of the line of a refusal, and out was kept
 pub record IsRefusalFault (call : Call) : Type 0 where
-  pub words_are : IsRun call.words
-  pub refusal : FailsInRefusal call.input call.notes
+  pub command : Command
+  pub words_are : IsCommand call.words command
+  pub line : List ℕ
+  pub cause : RefusesFor command call.input.old call.input.new line
+  pub front : AppendsFront call.notes.old call.notes.new line
+  pub rose : HasFailed call.notes
   pub out_kept : IsUntouched call.out
 
--- notes failed in the line on usage, and out was kept
+-- notes failed after a part of the line on usage, and out was kept
 pub record IsUsageFault (call : Call) : Type 0 where
-  pub no_command : ¬ (IsRun call.words)
-  pub usage : FailsInUsage call.notes
+  pub no_command : IsNoCommand call.words
+  pub front : AppendsFront call.notes.old call.notes.new usage_line
+  pub rose : HasFailed call.notes
   pub out_kept : IsUntouched call.out
 
 -- what a call was, by its status
@@ -159,3 +147,8 @@ pub record EndsRightly (input : List ℕ) (status : Status) (notes notes' : Opti
       → is_quiet sc (final sc) ≡ true → Ends status Done
   pub restless : (sc : Scenario) → Reads input sc → first_refused sc ≡ None
       → is_quiet sc (final sc) ≡ false → Ends status Budget
+
+-- a large scenario that comes to rest is done, and one that does not comes to its bound
+pub record EndsCounted (count : ℕ) (status : Status) : Type 0 where
+  pub at_rest : is_quiet (scenario_of count) (final (scenario_of count)) ≡ true → Ends status Done
+  pub restless : is_quiet (scenario_of count) (final (scenario_of count)) ≡ false → Ends status Budget

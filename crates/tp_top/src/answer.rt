@@ -1,5 +1,5 @@
-//! The answer to the word `run`, made whole before anything is written.
-ghost use Rattle.std.specs.Prelude.{◌≡◌, ◌+◌, true, false, IfOk, OnOk};
+//! The answer to a command, made whole before anything is written.
+ghost use Rattle.std.specs.Prelude.{◌≡◌, ◌≢◌, ◌+◌, true, IfOk, OnOk};
 ghost use Rattle.tp_model.specs.Agreement.{is_agreed};
 ghost use Rattle.tp_model.specs.Valid as valid;
 ghost use Rattle.tp_model.specs.Causes.{is_caused};
@@ -7,33 +7,35 @@ ghost use Rattle.tp_model.specs.Commits.{are_lone};
 ghost use Rattle.tp_model.specs.SerialRun.{is_serial};
 ghost use Rattle.tp_model.specs.Trust.{is_trusted};
 ghost use Rattle.tp_io.specs.Whole.{TakesAtMost, input_max};
-ghost use Rattle.tp_runs.specs.Laws.{IsTrustedState};
 ghost use Rattle.tp_machine.specs.Machine.{ending_of};
 ghost use Rattle.tp_machine.specs.WorldView.{start};
 ghost use Rattle.tp_report.specs.ReportText.{report_text};
-ghost use Rattle.tp_top.specs.Run.{Answers, automatic_bound};
-ghost use Rattle.tp_top.specs.mirrors.Answers.{IsListed, IsRefusal, IsReported, IsWhole};
+ghost use Rattle.tp_runs.specs.Laws.{IsTrustedState};
+ghost use Rattle.tp_top.specs.Run.{Answers, IsOfCommand};
+ghost use Rattle.tp_top.specs.mirrors.Answers.{IsRefusal, IsReported, IsWhole};
+ghost use Rattle.tp_words.specs.declared.commands.Command.TheVariants as Command;
 
-use crate::listed::follow;
+use crate::bulk::bulk;
+use crate::ended::{RunEnd, ending, run};
 use crate::refusals::{refusal_line, step_line};
 use std::alloc::Global;
-use tp_auto::{Drained, bound, drain};
 use tp_io::{ReadError, Source, read_to_end};
 use tp_machine::World;
 use tp_report::print;
 use tp_runs::agree::agreed;
 use tp_runs::data::serial;
-use tp_runs::history::{self, undelivered_count};
+use tp_runs::history;
 use tp_runs::views::trusted;
 use tp_scenario::{ScenarioError, read};
 use tp_types::{Fact, List, NoMemory, Scenario, Text};
+use tp_words::Command;
 
-/// What comes of an input.
+/// What comes of a command.
 #[derive(Drop)]
 pub enum Answer {
-    /// The report of its run.
-    Report(Text),
-    /// It is not a scenario that can be run, or one of its listed steps is refused: the line that says so.
+    /// What it is asked for: the report of a run, or the line of a large one.
+    Text(Text),
+    /// The input is not a scenario that can be run, or one of its listed steps is refused: the line that says so.
     Refused(Text),
     /// The input failed.
     ReadFault,
@@ -43,9 +45,23 @@ pub enum Answer {
     NoMemory,
 }
 
+/// Does what a command asks for. An input is read to its end where the command has one.
+pub fn answer_to<I: Source>(alloc: Global, command: Command, input: &mut I) -> Answer
+    requires { IsOfCommand command }
+    ensures cause { Answers command (I.left input.old) (I.left input.new) (I.faults input.old)
+        (I.faults input.new) result }
+    ensures taken { TakesAtMost (input_max + 1) (I.left input.old) (I.left input.new) }
+    ensures unread { command ≢ Command.Run → input.new ≡ input.old }
+{
+    match command {
+        Command::Run => answer_to_input(alloc, input),
+        Command::Bulk(count) => bulk(alloc, count),
+    }
+}
+
 /// Reads an input to its end and runs its scenario.
-pub fn answer_to<I: Source>(alloc: Global, input: &mut I) -> Answer
-    ensures cause { Answers (I.left input.old) (I.left input.new) (I.faults input.old)
+fn answer_to_input<I: Source>(alloc: Global, input: &mut I) -> Answer
+    ensures cause { Answers Command.Run (I.left input.old) (I.left input.new) (I.faults input.old)
         (I.faults input.new) result }
     ensures taken { TakesAtMost (input_max + 1) (I.left input.old) (I.left input.new) }
 {
@@ -80,69 +96,44 @@ fn reported(alloc: Global, scenario: &Scenario) -> Answer
     requires { valid.is_valid scenario.now ≡ true }
     ensures { IsReported scenario.now result }
 {
-    match run(alloc, scenario) {
+    match report(alloc, scenario) {
         Err(NoMemory) => Answer::NoMemory,
         Ok(answer) => answer,
     }
 }
 
-/// Does the listed steps and then the automatic ones, and prints the report, or the line of the first step that is refused.
-fn run(alloc: Global, scenario: &Scenario) -> Result<Answer, NoMemory>
+fn report(alloc: Global, scenario: &Scenario) -> Result<Answer, NoMemory>
     requires { valid.is_valid scenario.now ≡ true }
     ensures { IfOk result (IsReported scenario.now) }
 {
     let mut world = history::start(alloc, scenario)?;
-    let answer = run_in(alloc, &mut world, scenario);
+    let answer = report_in(alloc, &mut world, scenario);
     drop(world);
     answer
 }
 
-/// The same in a scenario's world before its first step.
-fn run_in(alloc: Global, world: &mut World, scenario: &Scenario) -> Result<Answer, NoMemory>
+/// Runs a scenario in its world, and prints the report, or the line of the first step that is refused.
+fn report_in(alloc: Global, world: &mut World, scenario: &Scenario) -> Result<Answer, NoMemory>
     requires valid { valid.is_valid scenario.now ≡ true }
     requires fresh { world.old ≡ start scenario.now }
     ensures { IfOk result (IsReported scenario.now) }
 {
-    match follow(world, alloc, scenario.steps.as_slice())? {
-        Some(refused) => Ok(Answer::Refused(step_line(alloc, scenario, refused)?)),
-        None => finish(alloc, world),
+    match run(world, alloc, scenario)? {
+        RunEnd::Stopped(refused) => Ok(Answer::Refused(step_line(alloc, scenario, refused)?)),
+        RunEnd::Restless => Ok(Answer::Budget),
+        RunEnd::AtRest => Ok(Answer::Text(text_of(alloc, world)?)),
     }
-}
-
-/// Does the automatic steps of a world after all of its listed ones, and prints the report.
-fn finish(alloc: Global, world: &mut World) -> Result<Answer, NoMemory>
-    requires here { IsListed world.old }
-    ensures { IfOk result (IsReported world.old.scenario) }
-{
-    let budget = budget_of(world);
-    match drain(world, alloc, budget) {
-        Drained::NoMemory => Err(NoMemory),
-        Drained::Budget => Ok(Answer::Budget),
-        Drained::Quiet => Ok(Answer::Report(text_of(alloc, world)?)),
-    }
-}
-
-/// How many automatic steps a world is allowed after all of its listed ones. Its undelivered mails are few: at most 100,000 steps are
-/// listed, and they send at most 128 times as many mails.
-fn budget_of(world: &World) -> u64
-    requires here { IsListed world.now }
-    ensures { result ≡ automatic_bound world.now.scenario }
-{
-    bound(world.scenario(), undelivered_count(world))
 }
 
 /// The facts of a world, with what is promised of each: they agree, commits are trusted, serial and apart, and aborts have causes.
-fn proved_facts(world: &World) -> &List<Fact>
+pub(crate) fn proved_facts(world: &World) -> &List<Fact>
     ensures value { result.now ≡ world.now.machine.state.facts }
     ensures agreement { is_agreed world.now.scenario result.now ≡ true }
     ensures trust { is_trusted world.now.scenario result.now ≡ true }
     ensures causes { is_caused world.now.scenario result.now ≡ true }
     ensures data { is_serial world.now.scenario result.now ≡ true }
     ensures lone { are_lone result.now ≡ true }
-    ensures so_far { world.now.given_up ≡ false
-        → IsTrustedState world.now.scenario world.now.machine.state }
 {
-    let _so_far = history::facts(world);
     let _trusted = trusted(world);
     let _serial = serial(world);
     agreed(world)
@@ -156,6 +147,7 @@ fn text_of(alloc: Global, world: &World) -> Result<Text, NoMemory>
     ensures so_far { OnOk result (IsTrustedState world.now.scenario world.now.machine.state) }
     ensures whole { OnOk result (IsWhole world.now.scenario world.now.machine.state) }
 {
-    let ending = history::ending(world, alloc)?;
-    print(alloc, world.scenario(), proved_facts(world), &ending)
+    let ending = ending(world, alloc)?;
+    let text = print(alloc, world.scenario(), proved_facts(world), &ending)?;
+    Ok(text)
 }

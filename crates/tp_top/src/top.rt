@@ -1,23 +1,23 @@
 //! The top call of the program.
-ghost use Rattle.std.specs.Prelude.{◌≡◌, ◌+◌, ◌≢◌, ◌⊎◌, ◌↔◌, [], IsTrue, IfOk, IfSome};
-ghost use Rattle.std.specs.Io.KnownBytes.{Appends};
+ghost use Rattle.std.specs.Prelude.{◌≡◌, ◌+◌, ℕ, IfSome};
 ghost use Rattle.tp_types.specs.Faults.{Rose};
 ghost use Rattle.tp_io.specs.Whole.{TakesAtMost, input_max};
 ghost use Rattle.tp_top.specs.declared.status.Status.TheVariants as Status;
-ghost use Rattle.tp_top.specs.Headline.{PrintsTrusted};
-ghost use Rattle.tp_top.specs.Refusals.{usage_line};
-ghost use Rattle.tp_top.specs.Run.{IsRun, HasRefusal, RunsTo};
-ghost use Rattle.tp_top.specs.Top.{Ends, EndsWith, EndsRightly};
+ghost use Rattle.tp_top.specs.Headline.{CountsTrusted, PrintsTrusted};
+ghost use Rattle.tp_top.specs.Run.{IsBulk, IsRun};
+ghost use Rattle.tp_top.specs.Top.{Ends, EndsCounted, EndsRightly, EndsWith};
+ghost use Rattle.tp_words.specs.Commands.{IsNoCommand};
 
 use crate::answer::{Answer, answer_to};
 use crate::status::Status;
 use std::alloc::Global;
 use tp_io::{Sink, Source, write_all};
 use tp_types::{NoMemory, Text};
-use tp_words::{Command, command_of};
+use tp_words::command_of;
 
-/// Does all that the program does: reads the input where the words are the command `run`, and writes the report to `out`, or why there
-/// is none to `notes`. It always returns. The whole text is made before the first write, and the writes take no memory.
+/// Does all that the program does. For the command `run` it reads the input, and writes its report to `out`, or why there is none to
+/// `notes`; for the command `bulk` with a number it makes a large scenario, and writes the line of its run to `out`. It always returns.
+/// The whole text is made before the first write, and the writes take no memory.
 pub fn tpvc<I: Source, O: Sink, N: Sink>(
     alloc: Global,
     words: &[Text],
@@ -25,8 +25,11 @@ pub fn tpvc<I: Source, O: Sink, N: Sink>(
     out: &mut O,
     notes: &mut N,
 ) -> Status
-    ensures printed { result ≡ Status.Done
+    // The headline, by the command.
+    ensures printed { IsRun words.now → result ≡ Status.Done
         → PrintsTrusted (I.left input.old) (I.left input.new) (O.written out.old) (O.written out.new) }
+    ensures counted { (count : ℕ) → IsBulk words.now count → result ≡ Status.Done
+        → CountsTrusted count (O.written out.old) (O.written out.new) }
 
     // What the call was, by its status.
     ensures ended { EndsWith result (record {
@@ -51,31 +54,34 @@ pub fn tpvc<I: Source, O: Sink, N: Sink>(
       };
     }) }
 
-    // Where no count rose, other words are answered by usage, and each cause in an input that is told by its status.
-    ensures called { ¬ (IsRun words.now) → ¬ (Rose (N.faults notes.old) (N.faults notes.new))
+    // Where no count rose, words that are no command are answered by usage, each cause in an input that is told by its status, and a
+    // large scenario by whether its run comes to rest.
+    ensures called { IsNoCommand words.now → ¬ (Rose (N.faults notes.old) (N.faults notes.new))
         → Ends result Status.Usage }
     ensures complete { IsRun words.now → ¬ (Rose (I.faults input.old) (I.faults input.new))
         → ¬ (Rose (O.faults out.old) (O.faults out.new))
         → ¬ (Rose (N.faults notes.old) (N.faults notes.new))
         → IfSome (I.left input.old) (λ bytes.
         EndsRightly bytes result (N.written notes.old) (N.written notes.new)) }
+    ensures finished { (count : ℕ) → IsBulk words.now count
+        → ¬ (Rose (O.faults out.old) (O.faults out.new)) → EndsCounted count result }
 
     // At every status at most one byte more than an input may have is read, and where the words are not `run` none is.
     ensures taken { TakesAtMost (input_max + 1) (I.left input.old) (I.left input.new) }
     ensures unread { ¬ (IsRun words.now) → input.new ≡ input.old }
 {
-    let runs = match is_run(alloc, words) {
-        Ok(runs) => runs,
+    let command = match command_of(alloc, words) {
         Err(NoMemory) => return Status::NoMemory,
+        Ok(None) => {
+            return match write_all(notes, b"usage: tpvc COMMAND [WORD]\n") {
+                Ok(()) => Status::Usage,
+                Err(_) => Status::WriteFault,
+            };
+        }
+        Ok(Some(command)) => command,
     };
-    if !runs {
-        return match write_all(notes, b"usage: tpvc COMMAND [WORD]\n") {
-            Ok(()) => Status::Usage,
-            Err(_) => Status::WriteFault,
-        };
-    }
-    match answer_to(alloc, input) {
-        Answer::Report(text) => match write_all(out, text.0.as_slice()) {
+    match answer_to(alloc, command, input) {
+        Answer::Text(text) => match write_all(out, text.0.as_slice()) {
             Ok(()) => Status::Done,
             Err(_) => Status::WriteFault,
         },
@@ -86,16 +92,5 @@ pub fn tpvc<I: Source, O: Sink, N: Sink>(
         Answer::ReadFault => Status::ReadFault,
         Answer::Budget => Status::Budget,
         Answer::NoMemory => Status::NoMemory,
-    }
-}
-
-/// Whether the words are the command `run`.
-fn is_run(alloc: Global, words: &[Text]) -> Result<bool, NoMemory>
-    ensures { IfOk result (λ is. IsTrue is ↔ IsRun words.now) }
-{
-    match command_of(alloc, words)? {
-        None => Ok(false),
-        Some(Command::Run) => Ok(true),
-        Some(Command::Bulk(_)) => Ok(false),
     }
 }

@@ -174,3 +174,28 @@ fn a_write_of_a_line_fails(rt: HostRuntime) {
         }
     }
 }
+
+// A word that is not UTF-8 is no command, and the input is not read.
+#[test]
+fn a_word_is_no_text(rt: HostRuntime) {
+    let mut words = List::new(rt.alloc());
+    let word = Text(list(&rt, &[b'r', b'u', b'n', 0xff]));
+    words.push(word).ok().expect(&rt, "memory for a word");
+    let input = list(&rt, FIRST.as_bytes());
+    let mut source = MemorySource::new(input, list(&rt, &[0]), 100);
+    let mut out = MemorySink::new(rt.alloc(), list(&rt, &[]), 3);
+    let mut notes = MemorySink::new(rt.alloc(), list(&rt, &[]), 3);
+    let status = tpvc(
+        rt.alloc(),
+        words.as_slice(),
+        &mut source,
+        &mut out,
+        &mut notes,
+    );
+    assert!(rt; status == Status::Usage, "another status");
+    assert!(rt; out.bytes() == b"", "something was written to out");
+    assert!(rt;
+        notes.bytes() == b"usage: tpvc COMMAND [WORD]\n",
+        "another line"
+    );
+}

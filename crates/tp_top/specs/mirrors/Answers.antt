@@ -1,5 +1,5 @@
 -- What the helpers of the answer to an input promise to one another.
-use Rattle.std.specs.Prelude.{◌≡◌, List, ℕ, length, true, false, Option, Some, None}
+use Rattle.std.specs.Prelude.{◌≡◌, List, ℕ, true, false, Option, Some, None}
 use Rattle.tp_model.specs.Words.{Scenario, Step}
 use Rattle.tp_runs.specs.Laws.{HasAllCommits, HasAllEnds, IsTrustedState}
 use Rattle.tp_machine.specs.Machine.{State}
@@ -7,11 +7,14 @@ use Rattle.tp_machine.specs.WorldView.{WorldView}
 use Rattle.tp_scenario.specs.declared.from_bytes.ScenarioError.{ScenarioError}
 use Rattle.tp_top.specs.declared.answer.Answer.{Answer}
 use Rattle.tp_top.specs.declared.answer.Answer.TheVariants as answer
+use Rattle.tp_top.specs.declared.ended.RunEnd.{RunEnd}
+use Rattle.tp_top.specs.declared.ended.RunEnd.TheVariants as end
 use Rattle.tp_top.specs.declared.listed.StepRefusal.{StepRefusal}
 use Rattle.tp_auto.specs.Auto.{is_quiet, world_after}
+use Rattle.tp_bulk.specs.Bulk.{scenario_of}
 use Rattle.tp_top.specs.Listed.{refused_from}
 use Rattle.tp_top.specs.Refusals.{refusal_line, step_line}
-use Rattle.tp_top.specs.Run.{automatic, automatic_bound, final, first_refused, after_listed, report_of}
+use Rattle.tp_top.specs.Run.{HasNoRest, after_listed, bulk_line, final, first_refused, report_of}
 
 -- ---- listed steps
 
@@ -27,6 +30,19 @@ pub record IsListed (world : WorldView) : Type 0 where
   pub lawful : first_refused world.scenario ≡ None
   pub now : world.machine ≡ after_listed world.scenario
 
+-- a world that came to rest after all steps of its scenario
+pub record IsAtRest (sc : Scenario) (world : WorldView) : Type 0 where
+  pub scenario_is : world.scenario ≡ sc
+  pub now : world.machine ≡ final sc
+  pub lawful : first_refused sc ≡ None
+  pub quiet : is_quiet sc (final sc) ≡ true
+
+-- how the run of a scenario ended in this world
+abbrev pub HasRun : Scenario → WorldView → RunEnd → Type 0
+HasRun sc world end.AtRest = IsAtRest sc world
+HasRun sc world (end.Stopped refused) = first_refused sc ≡ Some refused
+HasRun sc world end.Restless = HasNoRest sc
+
 -- ---- what comes of a scenario that was read
 
 -- where all of its transactions are finished they have ended, and where they have, its values are those that all commits leave
@@ -34,19 +50,22 @@ pub record IsWhole (sc : Scenario) (w : State) : Type 0 where
   pub ended : HasAllEnds sc w
   pub commits : HasAllCommits sc w
 
--- its listed steps are done, its run comes to rest, and the text is its report
-pub record IsRunTo (sc : Scenario) (text : List ℕ) : Type 0 where
+-- its listed steps are done, and its run comes to rest, with a history of which all is told
+pub record IsRested (sc : Scenario) : Type 0 where
   pub lawful : first_refused sc ≡ None
   pub quiet : is_quiet sc (final sc) ≡ true
   pub so_far : IsTrustedState sc (final sc).state
   pub whole : IsWhole sc (final sc).state
+
+-- and the text is its report
+pub record IsRunTo (sc : Scenario) (text : List ℕ) : Type 0 where
+  pub rested : IsRested sc
   pub text_is : text ≡ report_of sc
 
--- its listed steps are done, and its run does not end within the bound
-pub record IsRunOut (sc : Scenario) : Type 0 where
-  pub lawful : first_refused sc ≡ None
-  pub restless : is_quiet sc (final sc) ≡ false
-  pub used_up : length (automatic sc) ≡ automatic_bound sc
+-- or the line of the large scenario
+pub record IsCountedTo (count : ℕ) (text : List ℕ) : Type 0 where
+  pub rested : IsRested (scenario_of count)
+  pub text_is : text ≡ bulk_line count
 
 -- a listed step is refused, and the line says which is the first, and why
 pub record IsStopped (sc : Scenario) (line : List ℕ) : Type 0 where
@@ -56,11 +75,19 @@ pub record IsStopped (sc : Scenario) (line : List ℕ) : Type 0 where
 
 -- the same, as an answer
 abbrev pub IsReported : Scenario → Answer → Type 0
-IsReported sc (answer.Report text) = IsRunTo sc text.0
+IsReported sc (answer.Text text) = IsRunTo sc text.0
 IsReported sc (answer.Refused line) = IsStopped sc line.0
-IsReported sc answer.Budget = IsRunOut sc
+IsReported sc answer.Budget = HasNoRest sc
 IsReported sc answer.NoMemory = Unit {0}
 IsReported sc answer.ReadFault = ⊥
+
+-- what comes of the large scenario
+abbrev pub IsCounted : ℕ → Answer → Type 0
+IsCounted count (answer.Text text) = IsCountedTo count text.0
+IsCounted count (answer.Refused line) = ⊥
+IsCounted count answer.Budget = HasNoRest (scenario_of count)
+IsCounted count answer.NoMemory = Unit {0}
+IsCounted count answer.ReadFault = ⊥
 
 -- of an input that is refused so: its line
 abbrev pub IsRefusal : ScenarioError → Answer → Type 0

@@ -4,7 +4,7 @@ use Rattle.tp_machine.specs.WorldView.{WorldView}
 use Rattle.tp_types.specs.Each.{Each}
 use Rattle.tp_machine.specs.Named.{IsStepOf}
 use Rattle.tp_top.proofs.ListedRun.{listed_exist}
-use Rattle.tp_top.proofs.answer.run_in.Goals as goal
+use Rattle.tp_top.proofs.ended.run.Goals as goal
 
 pub follow-requires-clause-ids : goal.follow-requires-clause-ids
 follow-requires-clause-ids c =

@@ -1,0 +1,83 @@
+//! The large scenario: it is made, run, and told by one line.
+ghost use Rattle.std.specs.Prelude.{◌≡◌, ◌≤◌, true, IfOk, OnOk};
+ghost use Rattle.tp_bulk.specs.Bulk as made;
+ghost use Rattle.tp_bulk.specs.Line.{line_of};
+ghost use Rattle.tp_model.specs.Valid as valid;
+ghost use Rattle.tp_machine.specs.Machine.{ending_of};
+ghost use Rattle.tp_machine.specs.WorldView.{start};
+ghost use Rattle.tp_runs.specs.Laws.{IsTrustedState};
+ghost use Rattle.tp_top.specs.mirrors.Answers.{IsCounted, IsWhole};
+
+use crate::answer::{Answer, proved_facts};
+use crate::ended::{RunEnd, ending, run};
+use std::alloc::Global;
+use tp_bulk::{run_line, scenario_of};
+use tp_machine::World;
+use tp_runs::history;
+use tp_types::{NoMemory, Scenario, Text};
+
+/// Makes the large scenario of so many transactions, and runs it.
+pub(crate) fn bulk(alloc: Global, count: u32) -> Answer
+    requires least { 1 ≤ count }
+    requires most { count ≤ 128 }
+    ensures { IsCounted count result }
+{
+    match counted(alloc, count) {
+        Err(NoMemory) => Answer::NoMemory,
+        Ok(answer) => answer,
+    }
+}
+
+fn counted(alloc: Global, count: u32) -> Result<Answer, NoMemory>
+    requires least { 1 ≤ count }
+    requires most { count ≤ 128 }
+    ensures { IfOk result (IsCounted count) }
+{
+    let scenario = scenario_of(alloc, count)?;
+    let answer = count_run(alloc, count, &scenario);
+    drop(scenario);
+    answer
+}
+
+fn count_run(alloc: Global, count: u32, scenario: &Scenario) -> Result<Answer, NoMemory>
+    requires made { scenario.now ≡ made.scenario_of count }
+    requires valid { valid.is_valid scenario.now ≡ true }
+    ensures { IfOk result (IsCounted count) }
+{
+    let mut world = history::start(alloc, scenario)?;
+    let answer = count_in(alloc, count, &mut world, scenario);
+    drop(world);
+    answer
+}
+
+/// Runs the scenario in its world. Its listed steps are submissions, each of another transaction, and none is refused.
+fn count_in(
+    alloc: Global,
+    count: u32,
+    world: &mut World,
+    scenario: &Scenario,
+) -> Result<Answer, NoMemory>
+    requires made { scenario.now ≡ made.scenario_of count }
+    requires valid { valid.is_valid scenario.now ≡ true }
+    requires fresh { world.old ≡ start scenario.now }
+    ensures { IfOk result (IsCounted count) }
+{
+    match run(world, alloc, scenario)? {
+        RunEnd::Stopped(_) => unreachable!(),
+        RunEnd::Restless => Ok(Answer::Budget),
+        RunEnd::AtRest => Ok(Answer::Text(line_in(alloc, count, world)?)),
+    }
+}
+
+/// The line of a world, of whose history all is told that holds at this moment, and once its transactions are finished.
+fn line_in(alloc: Global, count: u32, world: &World) -> Result<Text, NoMemory>
+    ensures text { IfOk result (λ text.
+        text.0 ≡ line_of count world.now.machine.state.facts
+        (ending_of world.now.scenario world.now.machine.state)) }
+    ensures so_far { OnOk result (IsTrustedState world.now.scenario world.now.machine.state) }
+    ensures whole { OnOk result (IsWhole world.now.scenario world.now.machine.state) }
+{
+    let ending = ending(world, alloc)?;
+    let text = run_line(alloc, count, proved_facts(world), &ending)?;
+    Ok(text)
+}

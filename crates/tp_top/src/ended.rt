@@ -1,0 +1,71 @@
+//! The run of a scenario's world: its listed steps, and then the automatic ones.
+ghost use Rattle.std.specs.Prelude.{◌≡◌, true, false, IfOk, OnOk};
+ghost use Rattle.tp_model.specs.Valid as valid;
+ghost use Rattle.tp_machine.specs.Machine.{ending_of};
+ghost use Rattle.tp_machine.specs.WorldView.{start};
+ghost use Rattle.tp_runs.specs.Laws.{IsTrustedState};
+ghost use Rattle.tp_top.specs.Run.{automatic_bound};
+ghost use Rattle.tp_top.specs.mirrors.Answers.{HasRun, IsListed, IsWhole};
+
+use crate::listed::{StepRefusal, follow};
+use std::alloc::Global;
+use tp_auto::{Drained, bound, drain};
+use tp_machine::World;
+use tp_runs::history::{self, undelivered_count};
+use tp_types::{Ending, NoMemory, Scenario};
+
+/// How a run ends.
+#[derive(Clone, Copy)]
+pub enum RunEnd {
+    /// Nothing is left to be done.
+    AtRest,
+    /// A listed step is refused.
+    Stopped(StepRefusal),
+    /// The automatic steps came to their bound without an end.
+    Restless,
+}
+
+/// Does all steps of a scenario in its world before the first one.
+pub(crate) fn run(world: &mut World, alloc: Global, scenario: &Scenario) -> Result<RunEnd, NoMemory>
+    requires valid { valid.is_valid scenario.now ≡ true }
+    requires fresh { world.old ≡ start scenario.now }
+    ensures { IfOk result (HasRun scenario.now world.new) }
+{
+    match follow(world, alloc, scenario.steps.as_slice())? {
+        Some(refused) => Ok(RunEnd::Stopped(refused)),
+        None => settle(world, alloc),
+    }
+}
+
+/// Does the automatic steps of a world after all of its listed ones.
+fn settle(world: &mut World, alloc: Global) -> Result<RunEnd, NoMemory>
+    requires here { IsListed world.old }
+    ensures { IfOk result (HasRun world.old.scenario world.new) }
+{
+    let budget = budget_of(world);
+    match drain(world, alloc, budget) {
+        Drained::NoMemory => Err(NoMemory),
+        Drained::Budget => Ok(RunEnd::Restless),
+        Drained::Quiet => Ok(RunEnd::AtRest),
+    }
+}
+
+/// How many automatic steps a world is allowed after all of its listed ones. Its undelivered mails are few: at most 100,000 steps are
+/// listed, and they send at most 128 times as many mails.
+fn budget_of(world: &World) -> u64
+    requires here { IsListed world.now }
+    ensures { result ≡ automatic_bound world.now.scenario }
+{
+    bound(world.scenario(), undelivered_count(world))
+}
+
+/// How a world stands, of whose history all is told that holds at this moment, and once its transactions are finished.
+pub(crate) fn ending(world: &World, alloc: Global) -> Result<Ending, NoMemory>
+    ensures value { IfOk result (λ ending.
+        ending ≡ ending_of world.now.scenario world.now.machine.state) }
+    ensures so_far { OnOk result (IsTrustedState world.now.scenario world.now.machine.state) }
+    ensures whole { OnOk result (IsWhole world.now.scenario world.now.machine.state) }
+{
+    let _so_far = history::facts(world);
+    history::ending(world, alloc)
+}

@@ -1,0 +1,56 @@
+//! The words after the program's name, as bytes: one that is not UTF-8 reaches the top call as it is.
+use std::env::FillError;
+use std::rt::Env;
+use tp_types::{List, NoMemory, Text};
+
+/// A word by its place, or None behind the last one.
+#[derive(Drop)]
+enum Word {
+    Here(Text),
+    NotHere,
+    /// It has more bytes than were asked for.
+    Longer,
+}
+
+/// The word at a place, if it has at most so many bytes.
+fn word_within<R: Env + AllocGlobal>(
+    rt: &R,
+    place: usize,
+    length: usize,
+) -> Result<Word, NoMemory> {
+    let mut bytes = Vec::new(rt.alloc());
+    bytes.resize(length, 0u8)?;
+    match rt.arg(place, bytes.as_mut_slice()) {
+        Ok(count) => {
+            bytes.truncate(count);
+            Ok(Word::Here(Text(List::from_vec(bytes))))
+        }
+        Err(FillError::NotPresent) => Ok(Word::NotHere),
+        Err(FillError::TooLong) => Ok(Word::Longer),
+    }
+}
+
+/// The word at a place: room is doubled until it is enough, or memory is refused.
+fn word<R: Env + AllocGlobal>(rt: &R, place: usize) -> Result<Option<Text>, NoMemory> {
+    let mut length = 256usize;
+    for _ in 0..usize::BITS {
+        match word_within(rt, place, length)? {
+            Word::Here(word) => return Ok(Some(word)),
+            Word::NotHere => return Ok(None),
+            Word::Longer => length = length.saturating_mul(2),
+        }
+    }
+    Err(NoMemory)
+}
+
+/// The words, in order.
+pub(crate) fn words<R: Env + AllocGlobal>(rt: &R) -> Result<List<Text>, NoMemory> {
+    let mut words = List::new(rt.alloc());
+    for place in 1..usize::MAX {
+        match word(rt, place)? {
+            Some(word) => words.push(word)?,
+            None => return Ok(words),
+        }
+    }
+    Ok(words)
+}
