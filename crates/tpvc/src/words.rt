@@ -3,11 +3,11 @@ use std::env::FillError;
 use std::rt::Env;
 use tp_types::{List, NoMemory, Text};
 
-/// A word by its place, or None behind the last one.
+/// What stands at a place among the words.
 #[derive(Drop)]
-enum Word {
-    Here(Text),
-    NotHere,
+enum Found {
+    Word(Text),
+    Nothing,
     /// It has more bytes than were asked for.
     Longer,
 }
@@ -17,16 +17,16 @@ fn word_within<R: Env + AllocGlobal>(
     rt: &R,
     place: usize,
     length: usize,
-) -> Result<Word, NoMemory> {
+) -> Result<Found, NoMemory> {
     let mut bytes = Vec::new(rt.alloc());
     bytes.resize(length, 0u8)?;
     match rt.arg(place, bytes.as_mut_slice()) {
         Ok(count) => {
             bytes.truncate(count);
-            Ok(Word::Here(Text(List::from_vec(bytes))))
+            Ok(Found::Word(Text(List::from_vec(bytes))))
         }
-        Err(FillError::NotPresent) => Ok(Word::NotHere),
-        Err(FillError::TooLong) => Ok(Word::Longer),
+        Err(FillError::NotPresent) => Ok(Found::Nothing),
+        Err(FillError::TooLong) => Ok(Found::Longer),
     }
 }
 
@@ -35,9 +35,9 @@ fn word<R: Env + AllocGlobal>(rt: &R, place: usize) -> Result<Option<Text>, NoMe
     let mut length = 256usize;
     for _ in 0..usize::BITS {
         match word_within(rt, place, length)? {
-            Word::Here(word) => return Ok(Some(word)),
-            Word::NotHere => return Ok(None),
-            Word::Longer => length = length.saturating_mul(2),
+            Found::Word(word) => return Ok(Some(word)),
+            Found::Nothing => return Ok(None),
+            Found::Longer => length = length.saturating_mul(2),
         }
     }
     Err(NoMemory)
