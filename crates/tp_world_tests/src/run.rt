@@ -193,9 +193,9 @@ fn a_word_is_no_text(rt: HostRuntime) {
         &mut notes,
     );
     assert!(rt; status == Status::Usage, "another status");
-    assert!(rt; out.bytes() == b"", "something was written to out");
+    assert!(rt; out.bytes().is_empty(), "something was written to out");
     assert!(rt;
-        notes.bytes() == b"usage: tpvc COMMAND [WORD]\n",
+        notes.bytes() == b"usage: tpvc COMMAND [WORD]\n".as_slice(),
         "another line"
     );
 }
