@@ -49,7 +49,7 @@ pub fn evaluate_policy(
 /// Evaluates a policy on evidence that was found before, as a server does it for each of its queries.
 pub fn certify_policy(
     alloc: Global,
-    held: &Evidence<'_>,
+    held: &Evidence<'_, '_>,
     policy: &Policy,
     action: Action,
     item: &Name,

@@ -8,7 +8,8 @@ ghost use Rattle.tp_eval.specs.mirrors.Gathered.{gathered, takes};
 ghost use Rattle.tp_eval.specs.Uses as evaluation;
 
 use crate::evidence::Evidence;
-use tp_cred::{is_among, says};
+use crate::said::is_said;
+use tp_cred::is_among;
 use tp_types::{Cond, CredId, List, Name, NoMemory, Op, Value};
 
 fn add_once(uses: &mut List<CredId>, cred: CredId) -> Result<(), NoMemory>
@@ -20,40 +21,31 @@ fn add_once(uses: &mut List<CredId>, cred: CredId) -> Result<(), NoMemory>
     Ok(())
 }
 
-fn is_said(
-    held: &Evidence<'_>,
-    cred: CredId,
-    issuer: &Name,
-    attr: &Name,
-    op: Op,
-    wanted: &Value,
-) -> bool
-    ensures { result ≡ mirror.says held.now (meets issuer.now attr.now op wanted.now) cred }
-{
-    match held.creds.get(cred.0 as usize) {
-        None => false,
-        Some(credential) => says(credential, held.subject, issuer, attr, op, wanted),
-    }
-}
-
+/// The first of these that says what an atom asks.
 fn first_said(
-    held: &Evidence<'_>,
+    held: &Evidence<'_, '_>,
+    kept: &[CredId],
     issuer: &Name,
     attr: &Name,
     op: Op,
     wanted: &Value,
 ) -> Option<CredId>
     ensures { result ≡ find
-        (mirror.says held.now (meets issuer.now attr.now op wanted.now)) held.now.valid.now }
+        (mirror.says held.now (meets issuer.now attr.now op wanted.now)) kept.now }
 {
-    held.valid
-        .iter()
-        .copied()
-        .find(|cred| is_said(held, *cred, issuer, attr, op, wanted))
+    kept.iter().copied().find(|cred| is_said(
+        held.creds,
+        held.subject,
+        *cred,
+        issuer,
+        attr,
+        op,
+        wanted,
+    ))
 }
 
 fn first_shown(
-    held: &Evidence<'_>,
+    held: &Evidence<'_, '_>,
     issuer: &Name,
     attr: &Name,
     op: Op,
@@ -62,11 +54,12 @@ fn first_shown(
     ensures { result ≡ find
         (mirror.shows held.now (meets issuer.now attr.now op wanted.now)) held.now.presented.now }
 {
-    first_said(held, issuer, attr, op, wanted)
+    let kept = held.said.list_for(issuer, attr);
+    first_said(held, kept, issuer, attr, op, wanted)
 }
 
 fn gather_atom(
-    held: &Evidence<'_>,
+    held: &Evidence<'_, '_>,
     issuer: &Name,
     attr: &Name,
     op: Op,
@@ -96,7 +89,11 @@ fn gather_atom(
 /// it is not, the list stays.
 #[cycle(evaluation)]
 #[tactic(auto, using(crate::proofs::UsesLemmas::taken_atom, crate::proofs::UsesLemmas::taken_and, crate::proofs::UsesLemmas::taken_or))]
-pub fn gather(held: &Evidence<'_>, cond: &Cond, uses: &mut List<CredId>) -> Result<bool, NoMemory>
+pub fn gather(
+    held: &Evidence<'_, '_>,
+    cond: &Cond,
+    uses: &mut List<CredId>,
+) -> Result<bool, NoMemory>
     ensures truth { IfOk result (λ found. found ≡ is_some (takes held.now cond.now)) }
     ensures added { IfOk result (λ _. uses.new ≡ gathered uses.old (takes held.now cond.now)) }
 {
@@ -115,7 +112,7 @@ pub fn gather(held: &Evidence<'_>, cond: &Cond, uses: &mut List<CredId>) -> Resu
 
 #[cycle(evaluation)]
 fn gather_all(
-    held: &Evidence<'_>,
+    held: &Evidence<'_, '_>,
     members: &[Cond],
     uses: &mut List<CredId>,
 ) -> Result<bool, NoMemory>
@@ -137,7 +134,7 @@ fn gather_all(
 
 #[cycle(evaluation)]
 fn gather_first(
-    held: &Evidence<'_>,
+    held: &Evidence<'_, '_>,
     members: &[Cond],
     uses: &mut List<CredId>,
 ) -> Result<bool, NoMemory>

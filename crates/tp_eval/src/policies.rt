@@ -1,17 +1,19 @@
 //! The evaluation of a policy.
-ghost use Rattle.std.specs.Prelude.{◌≡◌, ◌<◌, ◌^◌, [], length, option_map, true, IfOk, IfSome};
+ghost use Rattle.std.specs.Prelude.{◌≡◌, ◌<◌, ◌^◌, [], filter, length, option_map, true, IfOk, IfSome};
 ghost use Rattle.std.specs.List.{list_all, IsDistinct};
 ghost use Rattle.std.specs.Option.{is_some};
 ghost use Rattle.tp_model.specs.Ids.{same_cred};
 ghost use Rattle.tp_model.specs.Policies as policies;
-ghost use Rattle.tp_model.specs.Credentials.{is_among};
+ghost use Rattle.tp_model.specs.Credentials.{is_among, is_valid_in};
+ghost use Rattle.tp_eval.specs.mirrors.Said.{IsIndexOf};
 ghost use Rattle.tp_cred.specs.Certificates.{is_checked};
 ghost use Rattle.tp_cred.specs.mirrors.HeldBy.{held_by, holder_in};
 ghost use Rattle.tp_eval.specs.mirrors.Gathered as gathered;
 ghost use Rattle.tp_eval.specs.Uses as evaluation;
 
-use crate::evidence::{Evidence, valid_of};
+use crate::evidence::Evidence;
 use crate::gather::gather;
+use crate::said::{Said, said_by};
 use std::alloc::Global;
 use tp_cred::Presented;
 use tp_model::matches;
@@ -27,7 +29,7 @@ pub struct Certificate {
 }
 
 fn gather_rule(
-    held: &Evidence<'_>,
+    held: &Evidence<'_, '_>,
     action: Action,
     item: &Name,
     rule: &Rule,
@@ -46,7 +48,7 @@ fn gather_rule(
 }
 
 fn first_rule(
-    held: &Evidence<'_>,
+    held: &Evidence<'_, '_>,
     action: Action,
     item: &Name,
     rules: &[Rule],
@@ -74,7 +76,7 @@ fn first_rule(
 /// Evaluates a policy for an action on an item, on evidence that was found before.
 pub fn certify(
     alloc: Global,
-    held: &Evidence<'_>,
+    held: &Evidence<'_, '_>,
     policy: &Policy,
     action: Action,
     item: &Name,
@@ -90,6 +92,34 @@ pub fn certify(
         None => Ok(None),
         Some(rule) => Ok(Some(Certificate { rule, uses })),
     }
+}
+
+/// Evaluates a policy on the credentials that a subject presents, once it was found what those say that are valid.
+fn certify_presented(
+    alloc: Global,
+    held: &Presented<'_>,
+    said: &Said<'_>,
+    policy: &Policy,
+    action: Action,
+    item: &Name,
+) -> Result<Option<Certificate>, NoMemory>
+    requires few { length policy.now.rules < 2 ^ 32 }
+    requires indexed { IsIndexOf held.now.store.now held.now.subject.now
+        (filter (is_valid_in held.now.store.now held.now.clock held.now.revoked.now) held.now.creds.now)
+        said.now.kinds.keys said.now.lists }
+    ensures { IfOk result (λ found.
+        found ≡ evaluation.certificate policy.now action item.now (holder_in held.now)
+        held.now.creds.now) }
+{
+    let evidence = Evidence {
+        creds: held.store.as_slice(),
+        subject: held.subject,
+        presented: held.creds,
+        clock: held.clock,
+        revoked: held.revoked,
+        said,
+    };
+    certify(alloc, &evidence, policy, action, item)
 }
 
 /// Evaluates a policy for an action on an item, on the credentials that a subject presents: those count that are the
@@ -120,14 +150,13 @@ pub fn evaluate(
         IfSome found (λ certificate. IsDistinct same_cred certificate.uses)) }
 {
     let creds = held.store.as_slice();
-    let valid = valid_of(alloc, creds, held.creds, held.clock, held.revoked)?;
-    let evidence = Evidence {
+    let said = said_by(
+        alloc,
         creds,
-        subject: held.subject,
-        presented: held.creds,
-        clock: held.clock,
-        revoked: held.revoked,
-        valid: valid.as_slice(),
-    };
-    certify(alloc, &evidence, policy, action, item)
+        held.subject,
+        held.creds,
+        held.clock,
+        held.revoked,
+    )?;
+    certify_presented(alloc, held, &said, policy, action, item)
 }

@@ -2,6 +2,7 @@
 ghost use Rattle.std.specs.Prelude.{◌≡◌, ◌<◌, ◌^◌, [], filter, find, length, Some, IfOk};
 ghost use Rattle.tp_model.specs.Authorisation as authorisation;
 ghost use Rattle.tp_model.specs.Credentials as credentials;
+ghost use Rattle.tp_eval.specs.mirrors.Said.{IsIndexOf};
 ghost use Rattle.tp_round.specs.Laws as laws;
 ghost use Rattle.tp_server.specs.Evaluation as evaluation;
 ghost use Rattle.tp_server.specs.Verdicts as verdicts;
@@ -9,47 +10,50 @@ ghost use Rattle.tp_server.specs.Verdicts.{HasFewRules};
 
 use crate::server::Server;
 use std::alloc::Global;
-use tp_eval::{Certificate, Evidence, certify, valid_of};
+use tp_eval::{Certificate, Evidence, Said, certify, said_by};
 use tp_lock::LockTable;
 use tp_model::{action_of, item_of, policy_at, query_at};
 use tp_store::Store;
 use tp_types::{
-    AdminId, CredId, Deed, ItemId, List, NoMemory, Place, Policy, Query, Scenario, ServerId,
-    Staple, Transaction, Verdict, Version,
+    AdminId, Deed, ItemId, List, NoMemory, Place, Policy, Query, Scenario, ServerId, Staple,
+    Transaction, Verdict, Version,
 };
 
 /// A transaction that is evaluated with a staple.
 #[derive(Clone, Copy)]
-struct Case<'a> {
+struct Case<'a, 'b> {
     scenario: &'a Scenario,
     txn: &'a Transaction,
     staple: &'a Staple,
     /// The versions wanted, which are used instead of those known.
     want: &'a [(AdminId, Version)],
-    /// Those of the credentials that it presents that are valid, found once.
-    valid: &'a [CredId],
-    ghost filtered: { valid.now
-        ≡ filter
+    /// What those of the credentials say that it presents and that are valid, found once.
+    said: &'b Said<'a>,
+    ghost indexed: { IsIndexOf scenario.now.creds txn.now.subject
+        (filter
         (credentials.is_valid_in scenario.now.creds staple.now.clock staple.now.revoked)
-        txn.now.creds },
+        txn.now.creds)
+        said.now.kinds.keys said.now.lists },
 }
 
-/// Those of the credentials that the transaction presents that are valid by the staple.
-fn valid_with(
+/// What those of the credentials say that the transaction presents and that are valid by the staple.
+fn said_with<'a>(
     alloc: Global,
-    scenario: &Scenario,
+    scenario: &'a Scenario,
     txn: &Transaction,
     staple: &Staple,
-) -> Result<List<CredId>, NoMemory>
-    ensures { IfOk result (λ valid.
-        valid
-        ≡ filter
+) -> Result<Said<'a>, NoMemory>
+    ensures { IfOk result (λ said.
+        IsIndexOf scenario.now.creds txn.now.subject
+        (filter
         (credentials.is_valid_in scenario.now.creds staple.now.clock staple.now.revoked)
-        txn.now.creds) }
+        txn.now.creds)
+        said.kinds.keys said.lists) }
 {
-    valid_of(
+    said_by(
         alloc,
         scenario.creds.as_slice(),
+        &txn.subject,
         txn.creds.as_slice(),
         staple.clock,
         staple.revoked.as_slice(),
@@ -66,13 +70,13 @@ pub fn learn(store: &mut Store, want: &[(AdminId, Version)])
 }
 
 /// The verdicts on what the transaction did at the server.
-pub fn verdicts_on<L: LockTable + Drop>(
+pub fn verdicts_on<'a, L: LockTable + Drop>(
     alloc: Global,
-    scenario: &Scenario,
+    scenario: &'a Scenario,
     server: &Server<L>,
-    txn: &Transaction,
-    staple: &Staple,
-    want: &[(AdminId, Version)],
+    txn: &'a Transaction,
+    staple: &'a Staple,
+    want: &'a [(AdminId, Version)],
     deeds: &[Deed],
 ) -> Result<List<Verdict>, NoMemory>
     requires { HasFewRules scenario.now }
@@ -80,48 +84,70 @@ pub fn verdicts_on<L: LockTable + Drop>(
         made ≡ verdicts.verdicts_on scenario.now server.now txn.now staple.now want.now
         deeds.now) }
 {
-    let valid = valid_with(alloc, scenario, txn, staple)?;
-    let case = Case {
-        scenario,
-        txn,
-        staple,
-        want,
-        valid: valid.as_slice(),
-    };
+    let said = said_with(alloc, scenario, txn, staple)?;
+    verdicts_in(
+        alloc,
+        &Case {
+            scenario,
+            txn,
+            staple,
+            want,
+            said: &said,
+        },
+        server,
+        deeds,
+    )
+}
+
+fn verdicts_in<L: LockTable + Drop>(
+    alloc: Global,
+    case: &Case<'_, '_>,
+    server: &Server<L>,
+    deeds: &[Deed],
+) -> Result<List<Verdict>, NoMemory>
+    requires { HasFewRules case.now.scenario.now }
+    ensures { IfOk result (λ made.
+        made ≡ verdicts.verdicts_on case.now.scenario.now server.now case.now.txn.now
+        case.now.staple.now case.now.want.now deeds.now) }
+{
     let mut made = List::new(alloc);
     for deed in deeds {
-        made.push(verdict_on(alloc, &case, server, *deed)?)?;
+        made.push(verdict_on(alloc, case, server, *deed)?)?;
     }
     Ok(made)
 }
 
 /// The verdict on one deed of the transaction, by the version that the server knows.
-pub fn verdict_alone<L: LockTable + Drop>(
+pub fn verdict_alone<'a, L: LockTable + Drop>(
     alloc: Global,
-    scenario: &Scenario,
+    scenario: &'a Scenario,
     server: &Server<L>,
-    txn: &Transaction,
-    staple: &Staple,
+    txn: &'a Transaction,
+    staple: &'a Staple,
     deed: Deed,
 ) -> Result<Verdict, NoMemory>
     requires { HasFewRules scenario.now }
     ensures { IfOk result (λ made.
         made ≡ verdicts.verdict_on scenario.now server.now txn.now staple.now [] deed) }
 {
-    let valid = valid_with(alloc, scenario, txn, staple)?;
-    let case = Case {
-        scenario,
-        txn,
-        staple,
-        want: &[],
-        valid: valid.as_slice(),
-    };
-    verdict_on(alloc, &case, server, deed)
+    let said = said_with(alloc, scenario, txn, staple)?;
+    verdict_on(
+        alloc,
+        &Case {
+            scenario,
+            txn,
+            staple,
+            want: &[],
+            said: &said,
+        },
+        server,
+        deed,
+    )
 }
 
 fn verdict_on<L: LockTable + Drop>(
     alloc: Global,
-    case: &Case<'_>,
+    case: &Case<'_, '_>,
     server: &Server<L>,
     deed: Deed,
 ) -> Result<Verdict, NoMemory>
@@ -194,7 +220,7 @@ fn verdict_of(
 /// The certificate of a query by a version of an administrator's policy, where there are such.
 fn certificate_of(
     alloc: Global,
-    case: &Case<'_>,
+    case: &Case<'_, '_>,
     number: u32,
     admin: AdminId,
     version: Version,
@@ -217,7 +243,7 @@ fn certificate_of(
 /// The certificate of a query by a policy, where the scenario has its item.
 fn certificate_by(
     alloc: Global,
-    case: &Case<'_>,
+    case: &Case<'_, '_>,
     query: &Query,
     policy: &Policy,
 ) -> Result<Option<Certificate>, NoMemory>
@@ -235,7 +261,7 @@ fn certificate_by(
         presented: case.txn.creds.as_slice(),
         clock: case.staple.clock,
         revoked: case.staple.revoked.as_slice(),
-        valid: case.valid,
+        said: case.said,
     };
     certify(alloc, &held, policy, action_of(query), &item.name)
 }

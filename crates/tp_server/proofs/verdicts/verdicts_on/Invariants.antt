@@ -1,7 +1,0 @@
-use Rattle.std.proofs.Common.{◌≡◌, map, take}
-use Rattle.tp_server.specs.Verdicts.{verdict_on}
-use Rattle.tp_server.proofs.verdicts.verdicts_on.Given as goal
-
--- the deeds so far have their verdicts
-abbrev pub invariant-loop-deed : goal.invariant-loop-deed
-invariant-loop-deed g l = l.made ≡ map (verdict_on l.scenario l.server l.txn l.staple l.want) (take l.deed-index l.deeds)
