@@ -1,7 +1,8 @@
-//! Calls of a table of locks, and what it answers.
+//! Calls of a table of locks, and what it answers: of one that keeps lists, and of one that keeps chains.
 use crate::spelling::{add_number, numbers_of};
 use std::alloc::Global;
 use tp_lock::{Asked, LockTable, PlainLocks};
+use tp_lock_chain::ChainLocks;
 use tp_types::{Action, ItemId, NoMemory, TxnId};
 
 /// The items of a table.
@@ -86,10 +87,20 @@ fn first_fault<'a, L: LockTable>(
     Ok(None)
 }
 
-/// The first call of a line that a new table does not answer as the call wants.
-pub fn fault<'a>(alloc: Global, line: &'a str) -> Result<Option<&'a str>, NoMemory> {
-    let mut table = PlainLocks::opened(alloc, ITEMS)?;
+fn fault_in<'a, L: LockTable + Drop>(
+    alloc: Global,
+    mut table: L,
+    line: &'a str,
+) -> Result<Option<&'a str>, NoMemory> {
     let fault = first_fault(alloc, &mut table, line);
     drop(table);
     fault
+}
+
+/// The first call of a line that a new table, of either kind, does not answer as the call wants.
+pub fn fault<'a>(alloc: Global, line: &'a str) -> Result<Option<&'a str>, NoMemory> {
+    match fault_in(alloc, PlainLocks::opened(alloc, ITEMS)?, line)? {
+        None => fault_in(alloc, ChainLocks::opened(alloc, ITEMS)?, line),
+        Some(step) => Ok(Some(step)),
+    }
 }

@@ -1,0 +1,16 @@
+mod AskLemmas
+mod ChainLemmas
+mod EnterLemmas
+mod FamilyLemmas
+mod LeaveLemmas
+mod LikeLemmas
+mod LinkLemmas
+mod ListLemmas
+mod LoopLemmas
+mod MoveLemmas
+mod ReadLemmas
+mod ReleaseLemmas
+mod RingLemmas
+mod RoomLemmas
+mod SeenLemmas
+mod SettleLemmas

@@ -1,0 +1,61 @@
+-- What is made when memory is taken.
+use Rattle.std.specs.Prelude.{ℕ, ◌+◌, ◌≡◌, ◌<◌, List, [], ◌∷◌, ◌++◌, length, map, slice_set}
+use Rattle.std.specs.List.{range_with_len}
+use Rattle.tp_lock.specs.Rule.{grant_of}
+use Rattle.tp_lock.specs.Table.{Table}
+use Rattle.tp_lock.specs.declared.entry.LockEntry.{LockEntry}
+use Rattle.tp_lock_chain.specs.declared.links.Kind.TheVariants.{Item}
+use Rattle.tp_lock_chain.specs.declared.links.Pair.{Pair}
+use Rattle.tp_lock_chain.specs.declared.links.Pool.{Pool}
+use Rattle.tp_lock_chain.specs.declared.links.Spot.TheVariants.{End}
+use Rattle.tp_lock_chain.specs.mirrors.Links.{blank, linked_before}
+use Rattle.tp_lock_chain.specs.mirrors.Pool.{IsChained, IsKept, list_of, shown}
+
+abbrev pub lone : ℕ → Pair
+lone ring = record { before = End ring; after = End ring }
+
+abbrev pub ends : ℕ → List Pair
+ends count = map lone (range_with_len 0 count)
+
+abbrev pub opened : ℕ → Pool
+opened items = record {
+  nodes = [];
+  items = ends (items + 1);
+  owners = [];
+  free = items;
+  granted = [];
+  given = 0;
+  next = 0;
+}
+
+-- one ring of an owner more
+abbrev pub with_owner : Pool → Pool
+with_owner pool = record pool { owners = pool.owners ++ lone (length pool.owners) ∷ [] }
+
+abbrev pub with_place : Pool → Pool
+with_place pool =
+    record pool { granted = pool.granted ++ grant_of (record { 0 = 0 }) 0 ∷ [] }
+
+-- one node more, in no ring
+abbrev pub with_blank : Pool → Pool
+with_blank pool =
+    record pool { nodes = pool.nodes ++ record blank { ring = pool.free } ∷ [] }
+
+abbrev pub with_node : Pool → Pool
+with_node pool = linked_before Item (length pool.nodes) (End pool.free) (with_blank pool)
+
+-- what holds of the old holds of the new, which shows the same
+pub record Keeps (old new : Pool) : Type 0 where
+  pub free : new.free ≡ old.free
+  pub kept : IsKept old → IsKept new
+  pub same : IsKept old → shown new ≡ shown old
+
+-- the table with another list of an item
+abbrev pub with_list : ℕ → List LockEntry → Table → Table
+with_list item list table = record table { lists = slice_set table.lists item list }
+
+-- the item's list has the entry as its last
+pub record Adds (item : ℕ) (entry : LockEntry) (old new : Pool) : Type 0 where
+  pub chained : IsKept old → item < old.free → IsChained new
+  pub shows : IsKept old → item < old.free
+      → shown new ≡ with_list item (list_of old item ++ entry ∷ []) (shown old)
