@@ -8,7 +8,7 @@ use Rattle.tp_machine.specs.declared.history.History.{History}
 use Rattle.tp_machine.specs.declared.error.StepError.{StepError}
 use Rattle.tp_machine.specs.Fits.{AllFitLogs}
 use Rattle.tp_machine.specs.mirrors.Acts.{HasEitherLogs, SameUp}
-use Rattle.tp_machine.specs.mirrors.Flags.{marked}
+use Rattle.tp_pending.specs.Flags.{marked}
 use Rattle.tp_types.specs.Each.{Each}
 use Rattle.tp_machine.specs.Named.{IsStepOf}
 use Rattle.tp_machine.specs.Machine.{State, Machine, after, machine_after, opening, refusal}

@@ -14,7 +14,7 @@ use crate::part::{
 use std::alloc::Global;
 use tp_coord::Coordinator;
 use tp_device::MemoryDisk;
-use tp_lock::PlainLocks;
+use tp_lock_chain::ChainLocks;
 use tp_offices::{Authority, Master, NoMore};
 use tp_recover::kept_of;
 use tp_server::Server;
@@ -24,7 +24,7 @@ use tp_types::{
 };
 
 /// The table of locks that each server keeps.
-pub type Locks = PlainLocks;
+pub type Locks = ChainLocks;
 
 /// The servers, the coordinators, each with its log, and the offices.
 #[derive(Drop)]

@@ -1,10 +1,11 @@
 //! What the world keeps of its run: the steps, the facts, and every mail with whether it is undelivered.
 ghost use Rattle.std.specs.Prelude.{◌≡◌, ◌+◌, ◌≤◌, ◌<◌, ℕ, [], ◌∷◌, ◌++◌, length, take, drop, replicate, slice_get, slice_set, ◌==◌, true, false, IfOk, IfSome, OnOk, OnErr};
-ghost use Rattle.tp_machine.specs.mirrors.Flags.{first_marked, marked};
+ghost use Rattle.tp_pending.specs.Flags.{marked};
 ghost use Rattle.std.specs.List.{list_any};
 ghost use Rattle.tp_machine.specs.Machine.{facts_of, mails_of};
 
 use std::alloc::Global;
+use tp_pending::Pending;
 use tp_types::{Fact, Letter, List, Mail, NoMemory, Place, Step, What};
 
 /// The steps, facts and mails of a run so far.
@@ -14,61 +15,50 @@ pub struct History {
     pub facts: List<Fact>,
     pub mails: List<Mail>,
     /// Of each mail, whether it is neither delivered nor lost.
-    pub pending: List<bool>,
-    /// The number of mails before the first that is pending.
-    pub oldest: usize,
+    pub pending: Pending,
     ghost flagged: { length pending ≡ length mails },
-    ghost first: { oldest ≡ first_marked pending },
 }
 
 impl History {
-    ghost use Rattle.tp_machine.specs.mirrors.History.{Notes, SameHistory};
+    ghost use Rattle.tp_machine.specs.mirrors.History.{IsEmpty, Notes, SameHistory};
 
     /// Before the first step.
-    pub fn new(alloc: Global) -> History
-        ensures steps { result.steps ≡ [] }
-        ensures facts { result.facts ≡ [] }
-        ensures mails { result.mails ≡ [] }
-        ensures pending { result.pending ≡ [] }
+    pub fn new(alloc: Global) -> Result<History, NoMemory>
+        ensures { IfOk result (λ made. IsEmpty made) }
     {
-        History {
+        let pending = Pending::new(alloc)?;
+        Ok(History {
             steps: List::new(alloc),
             facts: List::new(alloc),
             mails: List::new(alloc),
-            pending: List::new(alloc),
-            oldest: 0,
-        }
+            pending,
+        })
     }
 
     /// Whether a mail of this number was sent, and is neither delivered nor lost.
     pub fn is_pending(&self, number: usize) -> bool
         ensures { result ≡ list_any (λ (other : ℕ). other == number) (marked 0 self.now.pending) }
     {
-        match self.pending.get(number) {
-            None => false,
-            Some(flag) => *flag,
-        }
+        self.pending.is_pending(number)
     }
 
     /// The least number of a pending mail, or None exactly where there is none.
-    pub fn oldest_pending(&self) -> Option<u64>
+    pub fn first_pending(&self) -> Option<u64>
         ensures value { result ≡ slice_get (marked 0 self.now.pending) 0 }
         ensures sent { IfSome result (λ mail. mail < length self.now.mails) }
     {
-        if self.oldest < self.pending.len() {
-            Some(self.oldest as u64)
-        } else {
-            None
+        match self.pending.first() {
+            None => None,
+            Some(number) => Some(number as u64),
         }
     }
 
     /// How many mails are pending.
-    #[tactic(auto, using(crate::proofs::basics::Flags::marked_few))]
     pub fn pending_count(&self) -> u64
         ensures value { result ≡ length (marked 0 self.now.pending) }
         ensures few { result ≤ length self.now.mails }
     {
-        count_set(self.pending.as_slice())
+        self.pending.count() as u64
     }
 
     /// Adds a step with what happened in it and its letters, which become mails. Where memory is refused nothing is added.
@@ -99,7 +89,7 @@ impl History {
                 self.steps.truncate(steps);
                 self.facts.truncate(facts);
                 self.mails.truncate(mails);
-                self.pending.truncate(mails);
+                self.pending.cut(mails);
                 Err(refused)
             }
         }
@@ -112,8 +102,7 @@ impl History {
         ensures mails { self.new.mails ≡ self.old.mails }
         ensures pending { self.new.pending ≡ slice_set self.old.pending number false }
     {
-        self.pending.put(number, false);
-        self.oldest = first_from(self.pending.as_slice(), self.oldest);
+        self.pending.take(number);
     }
 }
 
@@ -122,7 +111,7 @@ fn add(
     steps: &mut List<Step>,
     facts: &mut List<Fact>,
     mails: &mut List<Mail>,
-    pending: &mut List<bool>,
+    pending: &mut Pending,
     taken: Step,
     happened: List<What>,
     letters: List<Letter>,
@@ -155,7 +144,7 @@ fn add_facts(facts: &mut List<Fact>, place: Place, happened: List<What>) -> Resu
 
 fn post(
     mails: &mut List<Mail>,
-    pending: &mut List<bool>,
+    pending: &mut Pending,
     sent: Place,
     letters: List<Letter>,
 ) -> Result<(), NoMemory>
@@ -172,33 +161,7 @@ fn post(
             sent,
             letter,
         })?;
-        pending.push(true)?;
+        pending.post()?;
     }
     Ok(())
-}
-
-/// How many flags are set.
-fn count_set(pending: &[bool]) -> u64
-    ensures { result ≡ length (marked 0 pending.now) }
-{
-    let mut count = 0;
-    for at in 0..pending.len() {
-        if pending[at] {
-            count += 1;
-        }
-    }
-    count
-}
-
-/// The first place from here on whose flag is set, or the length.
-fn first_from(pending: &[bool], from: usize) -> usize
-    requires { from ≤ length pending.now }
-    ensures { result ≡ from + first_marked (drop from pending.now) }
-{
-    for at in from..pending.len() {
-        if pending[at] {
-            return at;
-        }
-    }
-    pending.len()
 }

@@ -16,8 +16,8 @@
 //!   up (`World::facts`: `reached`, `valid`, `named`, `of_steps`; `World::scenario`: `valid`)
 //! - The views show the machine (`World::facts` and `scenario`: `value`; `mails`; `undelivered_count`: `value`;
 //!   `steps`, `given_up`, `down`, `undelivered`, `is_submitted`, `armed`; `ending`: `value`)
-//! - The oldest undelivered mail is the first of the undelivered ones, and it was sent (`World::oldest`:
-//!   `value`, `sent`)
+//! - The oldest undelivered mail is the first of the undelivered ones, and it was sent; it is told at one look
+//!   (`World::oldest`: `value`, `sent`, `counted`; `World::first_undelivered` without the count)
 //!
 //! `World::start` asks that the scenario is valid (`valid`), and that no run of it makes a record that is too
 //! long for a log (`fit`), which holds of every such scenario (`tp_runs`); `World::step` that what the step names

@@ -1,5 +1,5 @@
 //! The world: the machine of a scenario and the steps that were done.
-ghost use Rattle.std.specs.Prelude.{◌≡◌, ◌≢◌, ℕ, ◌==◌, ◌<◌, ◌≤◌, ◌*◌, length, true, false, Some, None, is_none, IfOk, IfErr, IfSome, OnOk, OnErr, IsErrOf, IsErr, slice_get};
+ghost use Rattle.std.specs.Prelude.{◌≡◌, ◌≢◌, ℕ, ◌+◌, ◌==◌, ◌<◌, ◌≤◌, ◌*◌, length, true, false, Some, None, is_none, IfOk, IfErr, IfSome, OnOk, OnErr, IsErrOf, IsErr, slice_get};
 ghost use Rattle.std.specs.Option.{option_copied};
 ghost use Rattle.std.specs.List.{list_any};
 ghost use Rattle.tp_model.specs.Valid as valid;
@@ -17,8 +17,9 @@ use crate::error::StepError;
 use crate::history::History;
 use std::alloc::Global;
 use std::marker::Model;
+use std::sync::ledger::Ledger;
 use tp_device::MemoryDisk;
-use tp_types::{Actor, Ending, Fact, List, NoMemory, Scenario, Step, TryClone, TxnId};
+use tp_types::{Actor, Ending, Fact, List, NoMemory, Scenario, Step, Steps, TryClone, TxnId};
 
 /// A scenario's cluster after the steps that were done. Contracts see the scenario, whether the world is given up, and the
 /// machine. Until the world is given up the machine is what the scenario and the steps give.
@@ -61,11 +62,12 @@ impl World {
         ensures { IfOk result (λ world. world ≡ start scenario.now) }
     {
         let actors = Actors::opened(alloc, scenario)?;
+        let history = History::new(alloc)?;
         Ok(World {
             scenario: scenario.try_clone(alloc)?,
             given_up: false,
             actors,
-            history: History::new(alloc),
+            history,
         })
     }
 
@@ -172,13 +174,23 @@ impl World {
         self.history.pending_count()
     }
 
-    /// The least number of an undelivered mail, or None exactly where there is none.
-    /// The automatic phase asks for it at each step; by `undelivered` alone it would go through all mails.
-    pub fn oldest(&self) -> Option<u64>
+    /// The least number of an undelivered mail, or None exactly where there is none. It is one look at a chain by
+    /// index, whatever was delivered or lost in between.
+    pub fn first_undelivered(&self) -> Option<u64>
         ensures value { result ≡ slice_get self.now.machine.undelivered 0 }
         ensures sent { IfSome result (λ mail. mail < length self.now.machine.state.mails) }
     {
-        self.history.oldest_pending()
+        self.history.first_pending()
+    }
+
+    /// The same, with its one step counted: a step is a mail that is looked at.
+    pub fn oldest<L: Ledger>(&self, steps: &mut Steps<L>) -> Option<u64>
+        ensures value { result ≡ slice_get self.now.machine.undelivered 0 }
+        ensures sent { IfSome result (λ mail. mail < length self.now.machine.state.mails) }
+        ensures counted { steps.new ≤ steps.old + 1 }
+    {
+        steps.tick();
+        self.first_undelivered()
     }
 
     /// Whether a transaction was submitted.

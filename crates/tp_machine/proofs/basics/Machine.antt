@@ -9,7 +9,7 @@ use Rattle.tp_machine.specs.declared.error.StepError.{StepError}
 use Rattle.tp_machine.specs.declared.history.History.{History}
 use Rattle.tp_machine.specs.declared.part.Act.{Act}
 use Rattle.tp_machine.specs.mirrors.Acts.{Moves}
-use Rattle.tp_machine.specs.mirrors.Flags.{marked}
+use Rattle.tp_pending.specs.Flags.{marked}
 use Rattle.tp_machine.specs.mirrors.History.{Notes}
 use Rattle.tp_machine.specs.Machine.{State, Machine, Move, state_after, facts_of, mails_of, with_new, without_number, after, after_step, after_steps, machine_after, opening, refusal}
 use Rattle.tp_machine.specs.WorldView.{machine_of, state_of}

@@ -5,7 +5,7 @@ use Rattle.tp_model.specs.Valid.{is_valid}
 use Rattle.tp_machine.specs.declared.actors.Actors.{Actors}
 use Rattle.tp_machine.specs.declared.history.History.{History}
 use Rattle.tp_machine.specs.Fits.{AllFitLogs}
-use Rattle.tp_machine.specs.mirrors.Flags.{marked}
+use Rattle.tp_pending.specs.Flags.{marked}
 use Rattle.tp_machine.specs.Machine.{Machine, opened_actors, opening}
 use Rattle.tp_machine.specs.WorldView.{WorldView, IsWorld, machine_of, start}
 use Rattle.tp_machine.proofs.basics.Fits.{all_opened}

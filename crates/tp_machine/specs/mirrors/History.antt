@@ -4,6 +4,13 @@ use Rattle.tp_model.specs.Words.{Letter, Step, What}
 use Rattle.tp_machine.specs.declared.history.History.{History}
 use Rattle.tp_machine.specs.Machine.{facts_of, mails_of}
 
+-- nothing happened
+pub record IsEmpty (history : History) : Type 0 where
+  pub steps : history.steps ≡ []
+  pub facts : history.facts ≡ []
+  pub mails : history.mails ≡ []
+  pub pending : history.pending ≡ []
+
 -- the step is added with what happened in it and its letters, whose mails are undelivered
 pub record Notes (old new : History) (taken : Step) (happened : List What) (letters : List Letter)
     : Type 0 where

@@ -1,6 +1,5 @@
 use Rattle.std.proofs.Common.{length, ap, sym, ◌∙◌}
-use Rattle.tp_machine.specs.mirrors.Flags.{first_marked}
-use Rattle.tp_machine.proofs.basics.Flags.{first_marked-append, length-flags_mails_of}
+use Rattle.tp_machine.proofs.basics.Flags.{length-flags_mails_of}
 use Rattle.tp_machine.proofs.history.History.note.Goals as goal
 
 pub invariant_of-self : goal.invariant_of-self
@@ -9,5 +8,4 @@ invariant_of-self c =
     record {
       flagged = ap length c.in-Ok.ensures.pending
           ∙ (length-flags_mails_of (length old.steps) old.pending old.mails c.args.letters old.flagged ∙ ap length (sym c.in-Ok.ensures.mails));
-      first = old.first ∙ (sym (first_marked-append old.pending (length c.args.letters)) ∙ ap first_marked (sym c.in-Ok.ensures.pending));
     }

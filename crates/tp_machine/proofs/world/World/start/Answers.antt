@@ -6,9 +6,9 @@ use Rattle.tp_machine.proofs.world.World.start.Goals as goal
 pub invariant_of-result : goal.invariant_of-result
 invariant_of-result c =
     let sc = c.args.scenario.now in
-    let history = c.new.ensures in
+    let empty = c.in_ok-history.ensures in
     world_at_start sc _ _ c.requires.valid c.requires.fit c.in_ok-try_clone.ensures
-    (machine_opened sc c.in_ok-actors.actors c.new.result c.in_ok-actors.ensures history.steps history.facts history.mails history.pending)
+    (machine_opened sc c.in_ok-actors.actors c.in_ok-history.history c.in_ok-actors.ensures empty.steps empty.facts empty.mails empty.pending)
 
 pub opened-requires-clause-servers : goal.opened-requires-clause-servers
 opened-requires-clause-servers c = let few = few_servers c.args.scenario.now (rules_of c.args.scenario.now c.requires.valid) in omega (arith, few)
