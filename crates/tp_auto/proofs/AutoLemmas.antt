@@ -10,8 +10,7 @@ use Rattle.tp_machine.specs.declared.error.StepError.TheVariants as error
 use Rattle.tp_machine.specs.Machine.{Machine, after_step, after_steps, machine_after, refusal}
 use Rattle.tp_machine.specs.WorldView.{Does, GivesUp, Refuses, WorldView}
 use Rattle.tp_machine.proofs.basics.Machine.{after_steps-snoc}
-use Rattle.tp_auto.proofs.NextLemmas.{quiet_anywhere}
-use Rattle.tp_auto.specs.Auto.{Drains, IsSpent, Stops, automatic_from, cursor_after, is_quiet, next_of, world_after, steps_of}
+use Rattle.tp_auto.specs.Auto.{Drains, Stops, automatic_from, bound_of, cursor_after, next_of, steps_of, world_after}
 
 -- ---- lists
 
@@ -20,9 +19,6 @@ take_more k xs y ys e = take-add k 1 xs ∙ ap (λ d. take k xs ++ take 1 d) e
 
 pub drop_more : {A : Type 0} (k : ℕ) (xs : List A) (y : A) (ys : List A) → drop k xs ≡ y ∷ ys → drop (k + 1) xs ≡ ys
 drop_more k xs y ys e = sym (drop-drop 1 k xs) ∙ ap (drop 1) e
-
-within_more : {A : Type 0} (k : ℕ) (xs : List A) (y : A) (ys : List A) → drop k xs ≡ y ∷ ys → k < length xs
-within_more k xs y ys e = omega (arith, length-drop k xs, ap length e)
 
 next_at : {A : Type 0} (k : ℕ) (xs : List A) (y : A) (ys : List A) → drop k xs ≡ y ∷ ys → slice_get xs k ≡ Some y
 next_at zero [] y ys e = absurd cc
@@ -52,33 +48,30 @@ automatic-none sc (suc left) cursor m e =
 -- ---- the drain
 
 -- so many of the automatic steps of the old world are done, and the cursor stands here
-pub record SoFar (old new : WorldView) (budget count cursor : ℕ) : Type 0 where
+pub record SoFar (old new : WorldView) (count cursor : ℕ) : Type 0 where
   pub was_up : old.given_up ≡ false
-  pub within : count ≤ length (steps_of old budget)
-  pub now : new ≡ world_after old (take count (steps_of old budget))
-  pub rest : drop count (steps_of old budget) ≡ automatic_from old.scenario (budget - count) cursor new.machine
+  pub now : new ≡ world_after old (take count (steps_of old))
+  pub rest : drop count (steps_of old) ≡ automatic_from old.scenario (bound_of old - count) cursor new.machine
 
-pub so_far_none : (old : WorldView) (budget : ℕ) → old.given_up ≡ false → SoFar old old budget 0 0
-so_far_none old budget up =
-    let left : budget ≡ budget - 0 = omega arith in
-    record { was_up = up; within = omega arith; now = refl; rest = ap (λ n. automatic_from old.scenario n 0 old.machine) left }
+pub so_far_none : (old : WorldView) → old.given_up ≡ false → SoFar old old 0 0
+so_far_none old up =
+    let left : bound_of old ≡ bound_of old - 0 = omega arith in
+    record { was_up = up; now = refl; rest = ap (λ n. automatic_from old.scenario n 0 old.machine) left }
 
-same_scenario : (old new : WorldView) (budget count cursor : ℕ) → SoFar old new budget count cursor → new.scenario ≡ old.scenario
-same_scenario old new budget count cursor so = ap (λ (w : WorldView). w.scenario) so.now
+pub same_scenario : (old new : WorldView) (count cursor : ℕ) → SoFar old new count cursor → new.scenario ≡ old.scenario
+same_scenario old new count cursor so = ap (λ (w : WorldView). w.scenario) so.now
 
-next_here : (old new : WorldView) (budget count cursor : ℕ) (next : Option Step) → SoFar old new budget count cursor
-    → next ≡ next_of new.scenario new.machine cursor → next_of old.scenario new.machine cursor ≡ next
-next_here old new budget count cursor next so e =
-    sym (e ∙ ap (λ (sc : Scenario). next_of sc new.machine cursor) (same_scenario old new budget count cursor so))
+-- the next step is the same in the scenario of the start
+pub next_here : (old new : WorldView) (count cursor : ℕ) (next : Option Step) → SoFar old new count cursor → next ≡ next_of new.scenario new.machine cursor → next_of old.scenario new.machine cursor ≡ next
+next_here old new count cursor next so e = sym (e ∙ ap (λ (sc : Scenario). next_of sc new.machine cursor) (same_scenario old new count cursor so))
 
 -- what is left begins with the next step
-rest_more : (old mid : WorldView) (budget count cursor : ℕ) (taken : Step) → SoFar old mid budget count cursor → count < budget
-    → Some taken ≡ next_of mid.scenario mid.machine cursor → refusal mid.machine.state taken ≡ None
-    → drop count (steps_of old budget) ≡ taken ∷ automatic_from old.scenario (budget - (count + 1)) (cursor_after taken cursor) (machine_after old.scenario mid.machine taken)
-rest_more old mid budget count cursor taken so more e ok =
-    let left : budget - count ≡ suc (budget - (count + 1)) = omega arith in
+rest_more : (old mid : WorldView) (count cursor : ℕ) (taken : Step) → SoFar old mid count cursor → count < bound_of old → Some taken ≡ next_of mid.scenario mid.machine cursor → refusal mid.machine.state taken ≡ None
+    → drop count (steps_of old) ≡ taken ∷ automatic_from old.scenario (bound_of old - (count + 1)) (cursor_after taken cursor) (machine_after old.scenario mid.machine taken)
+rest_more old mid count cursor taken so more e ok =
+    let left : bound_of old - count ≡ suc (bound_of old - (count + 1)) = omega (arith, more) in
     so.rest ∙ (ap (λ n. automatic_from old.scenario n cursor mid.machine) left
-    ∙ automatic-some old.scenario (budget - (count + 1)) cursor mid.machine taken (next_here old mid budget count cursor (Some taken) so e) ok)
+    ∙ automatic-some old.scenario (bound_of old - (count + 1)) cursor mid.machine taken (next_here old mid count cursor (Some taken) so e) ok)
 
 -- the world after one step more
 with_step : WorldView → Step → WorldView
@@ -92,66 +85,42 @@ world_after-snoc world steps taken ok =
     (after_steps-snoc world.scenario world.machine steps taken
     ∙ after_allowed world.scenario (after_steps world.scenario world.machine steps) taken ok)
 
+pub machine_is : (old mid new : WorldView) (count cursor : ℕ) (taken : Step) → SoFar old mid count cursor → Does mid new taken → new.machine ≡ machine_after old.scenario mid.machine taken
+machine_is old mid new count cursor taken so did =
+    ap (λ (w : WorldView). w.machine) did.now ∙ ap (λ (sc : Scenario). machine_after sc mid.machine taken) (same_scenario old mid count cursor so)
+
 -- one step more
-pub so_far_more : (old mid new : WorldView) (budget count cursor after : ℕ) (taken : Step) → after ≡ cursor_after taken cursor → SoFar old mid budget count cursor → count < budget
-    → Some taken ≡ next_of mid.scenario mid.machine cursor → Does mid new taken → SoFar old new budget (count + 1) after
+pub so_far_more : (old mid new : WorldView) (count cursor after : ℕ) (taken : Step) → after ≡ cursor_after taken cursor → SoFar old mid count cursor → count < bound_of old
+    → Some taken ≡ next_of mid.scenario mid.machine cursor → Does mid new taken → SoFar old new (count + 1) after
 unfolding with_step
-so_far_more old mid new budget count cursor after taken moved so more e did =
-    let all = steps_of old budget in
-    let ok = did.not_refused in
-    let rest = rest_more old mid budget count cursor taken so more e ok in
+so_far_more old mid new count cursor after taken moved so more e did =
+    let all = steps_of old in
+    let left = bound_of old - (count + 1) in
+    let rest = rest_more old mid count cursor taken so more e did.not_refused in
     let before : refusal (world_after old (take count all)).machine.state taken ≡ None =
-    subst (λ (w : WorldView). refusal w.machine.state taken ≡ None) so.now ok in
-    let machine : new.machine ≡ machine_after old.scenario mid.machine taken =
-    ap (λ (w : WorldView). w.machine) did.now ∙ ap (λ (sc : Scenario). machine_after sc mid.machine taken) (same_scenario old mid budget count cursor so) in
+    subst (λ (w : WorldView). refusal w.machine.state taken ≡ None) so.now did.not_refused in
     record {
       was_up = so.was_up;
-      within = omega (arith, within_more count all taken _ rest);
       now = did.now ∙ (ap (λ (w : WorldView). with_step w taken) so.now
           ∙ (sym (world_after-snoc old (take count all) taken before) ∙ ap (world_after old) (sym (take_more count all taken _ rest))));
-      rest = drop_more count all taken _ rest ∙ (ap (λ (at : ℕ). automatic_from old.scenario (budget - (count + 1)) at (machine_after old.scenario mid.machine taken)) (sym moved)
-          ∙ ap (automatic_from old.scenario (budget - (count + 1)) after) (sym machine));
+      rest = drop_more count all taken _ rest ∙ (ap (λ (at : ℕ). automatic_from old.scenario left at (machine_after old.scenario mid.machine taken)) (sym moved)
+          ∙ ap (automatic_from old.scenario left after) (sym (machine_is old mid new count cursor taken so did)));
     }
 
--- all are done where no step is left
-drains_all : (old new : WorldView) (budget count cursor : ℕ) → SoFar old new budget count cursor → drop count (steps_of old budget) ≡ [] → Drains old new budget
-drains_all old new budget count cursor so e =
-    record { was_up = so.was_up; now = so.now ∙ ap (world_after old) (take_all count (steps_of old budget) (none_more count (steps_of old budget) e)) }
+-- where no step is next all are done
+pub drains_quiet : (old new : WorldView) (count cursor : ℕ) → SoFar old new count cursor → None ≡ next_of new.scenario new.machine cursor → Drains old new
+drains_quiet old new count cursor so e =
+    let none : drop count (steps_of old) ≡ [] = so.rest ∙ automatic-none old.scenario (bound_of old - count) cursor new.machine (next_here old new count cursor None so e) in
+    record { was_up = so.was_up; now = so.now ∙ ap (world_after old) (take_all count (steps_of old) (none_more count (steps_of old) none)) }
 
--- the world is quiet
-pub drains_quiet : (old new : WorldView) (budget count cursor : ℕ) → SoFar old new budget count cursor → None ≡ next_of new.scenario new.machine cursor → Drains old new budget
-drains_quiet old new budget count cursor so e =
-    drains_all old new budget count cursor so
-    (so.rest ∙ automatic-none old.scenario (budget - count) cursor new.machine (next_here old new budget count cursor None so e))
-
-pub is_at_rest : (old new : WorldView) (budget count cursor : ℕ) → SoFar old new budget count cursor → None ≡ next_of new.scenario new.machine cursor → is_quiet new.scenario new.machine ≡ true
-is_at_rest old new budget count cursor so e = quiet_anywhere new.scenario new.machine cursor None e
-
--- the budget is spent
-rest_spent : (old new : WorldView) (budget cursor : ℕ) → SoFar old new budget budget cursor → drop budget (steps_of old budget) ≡ []
-rest_spent old new budget cursor so =
-    let left : budget - budget ≡ 0 = omega arith in
-    so.rest ∙ ap (λ n. automatic_from old.scenario n cursor new.machine) left
-
-pub drains_spent : (old new : WorldView) (budget cursor : ℕ) → SoFar old new budget budget cursor → Drains old new budget
-drains_spent old new budget cursor so = drains_all old new budget budget cursor so (rest_spent old new budget cursor so)
-
-pub is_spent : (old new : WorldView) (budget cursor : ℕ) (taken : Step) → SoFar old new budget budget cursor → Some taken ≡ next_of new.scenario new.machine cursor
-    → IsSpent old new budget
-is_spent old new budget cursor taken so e =
-    record {
-      all = omega (arith, so.within, none_more budget (steps_of old budget) (rest_spent old new budget cursor so));
-      goes_on = quiet_anywhere new.scenario new.machine cursor (Some taken) e;
-    }
-
--- memory is refused in the next step
-pub stops : (old mid new : WorldView) (budget count cursor : ℕ) (taken : Step) → SoFar old mid budget count cursor → count < budget
-    → Some taken ≡ next_of mid.scenario mid.machine cursor → refusal mid.machine.state taken ≡ None → GivesUp mid new taken → Stops old new budget
-stops old mid new budget count cursor taken so more e ok gave =
+-- where memory is refused in the next step the drain stops there
+pub stops : (old mid new : WorldView) (count cursor : ℕ) (taken : Step) → SoFar old mid count cursor → count < bound_of old → Some taken ≡ next_of mid.scenario mid.machine cursor → refusal mid.machine.state taken ≡ None
+    → GivesUp mid new taken → Stops old new
+stops old mid new count cursor taken so more e ok gave =
     record {
       count = count;
       next = taken;
-      is_next = next_at count (steps_of old budget) taken _ (rest_more old mid budget count cursor taken so more e ok);
+      is_next = next_at count (steps_of old) taken _ (rest_more old mid count cursor taken so more e ok);
       gave_up = subst (λ (w : WorldView). GivesUp w new taken) so.now gave;
     }
 

@@ -1,4 +1,11 @@
 pub mod AutoLemmas
 pub mod BoundLemmas
+pub mod EndLemmas
+pub mod FoundLemmas
+pub mod GoingLemmas
 pub mod NextLemmas
+pub mod PotentialLemmas
+pub mod RestLemmas
+pub mod StandsLemmas
+pub mod StartLemmas
 pub mod UpLemmas

@@ -1,5 +1,6 @@
--- The next step that comes by itself: what is found among the transactions and servers exists, whether there is one does not depend on the
--- cursor, a boot or a timer that is chosen is not refused, and where there is none each transaction is finished.
+-- The next step that comes by itself: what is found among the transactions and servers exists, whether there is one
+-- does not depend on the cursor, a boot or a timer that is chosen is not refused, and where there is none each
+-- transaction is finished.
 use Rattle.std.proofs.Common.{◌≡◌, ℕ, ◌+◌, ◌<◌, ◌≤◌, List, [], ◌∷◌, ◌&&◌, length, map, take, drop, find, cond, slice_get, Bool, true, false, not, option_map, Option, Some, None, is_none, IfSome, zero, suc, if◌then◌else◌, refl, sym, ap, subst, ◌∙◌, arith}
 use Rattle.std.specs.List.{range_with_len}
 use Rattle.std.specs.Option.{option_map_or, option_or}

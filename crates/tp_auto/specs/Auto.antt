@@ -1,5 +1,6 @@
--- The automatic phase: which step comes next by itself, what so many such steps are, and how many are allowed.
-use Rattle.std.specs.Prelude.{◌≡◌, ◌<◌, ℕ, ◌+◌, ◌*◌, max, List, [], ◌∷◌, length, map, drop, find, fold, slice_get, take, Bool, false, not, Option, Some, None, is_none, option_map, zero, suc}
+-- The automatic phase: which step comes next by itself, what so many such steps are, how many there are at most, and
+-- what a drain does.
+use Rattle.std.specs.Prelude.{◌≡◌, ℕ, ◌+◌, ◌*◌, max, List, [], ◌∷◌, length, map, drop, find, fold, slice_get, take, Bool, false, not, Option, Some, None, is_none, option_map, zero, suc}
 use Rattle.std.specs.List.{range_with_len}
 use Rattle.std.specs.Option.{option_map_or, option_or}
 use Rattle.tp_model.specs.Words.{Actor, Scenario, ServerId, Step, Transaction, TxnId}
@@ -43,7 +44,8 @@ first_armed sc actors cursor =
     option_or (find (is_armed_at actors) (drop cursor (txns_of sc)))
     (find (is_armed_at actors) (take cursor (txns_of sc)))
 
--- the oldest undelivered mail is delivered; where there is none, a transaction is submitted; and where all were, a timer fires
+-- the oldest undelivered mail is delivered; where there is none, a transaction is submitted; and where all were, a
+-- timer fires
 abbrev pub next_by : Scenario → Actors → ℕ → Option ℕ → Option Step
 next_by sc actors cursor (Some mail) = Some (step.Deliver mail)
 next_by sc actors cursor None =
@@ -80,34 +82,7 @@ automatic_from sc (suc left) cursor m =
 abbrev pub automatic_steps : Scenario → ℕ → Machine → List Step
 automatic_steps sc count m = automatic_from sc count 0 m
 
--- ---- what a drain does
-
--- the automatic steps of a world, at most so many
-abbrev pub steps_of : WorldView → ℕ → List Step
-steps_of world budget = automatic_steps world.scenario budget world.machine
-
--- the world after these steps
-abbrev pub world_after : WorldView → List Step → WorldView
-world_after world taken = record world { machine = after_steps world.scenario world.machine taken }
-
--- the world, which was not given up, did at most so many automatic steps
-pub record Drains (old new : WorldView) (budget : ℕ) : Type 0 where
-  pub was_up : old.given_up ≡ false
-  pub now : new ≡ world_after old (steps_of old budget)
-
--- it did just so many, and is not quiet
-pub record IsSpent (old new : WorldView) (budget : ℕ) : Type 0 where
-  pub all : length (steps_of old budget) ≡ budget
-  pub goes_on : is_quiet new.scenario new.machine ≡ false
-
--- memory was refused in one of those steps, after the ones before it were done
-pub record Stops (old new : WorldView) (budget : ℕ) : Type 0 where
-  pub count : ℕ
-  pub next : Step
-  pub is_next : slice_get (steps_of old budget) count ≡ Some next
-  pub gave_up : GivesUp (world_after old (take count (steps_of old budget))) new next
-
--- ---- how many steps are allowed
+-- ---- how many there are at most
 
 -- the most queries of a transaction, 0 if there is none
 abbrev pub most_queries : List Transaction → ℕ
@@ -127,8 +102,34 @@ bound_by txns queries rounds servers undelivered =
     + txns
     + 2
 
--- how many automatic steps a run allows, from so many undelivered mails on
+-- from so many undelivered mails on there are at most so many automatic steps
 abbrev pub bound : Scenario → ℕ → ℕ
 bound sc undelivered =
     bound_by (length sc.txns) (most_queries sc.txns) (greatest_rounds sc.txns)
     (length sc.servers) undelivered
+
+-- ---- what a drain does
+
+-- the bound of a world
+abbrev pub bound_of : WorldView → ℕ
+bound_of world = bound world.scenario (length world.machine.undelivered)
+
+-- the automatic steps of a world, within its bound
+abbrev pub steps_of : WorldView → List Step
+steps_of world = automatic_steps world.scenario (bound_of world) world.machine
+
+-- the world after these steps
+abbrev pub world_after : WorldView → List Step → WorldView
+world_after world taken = record world { machine = after_steps world.scenario world.machine taken }
+
+-- the world, which was not given up, did its automatic steps
+pub record Drains (old new : WorldView) : Type 0 where
+  pub was_up : old.given_up ≡ false
+  pub now : new ≡ world_after old (steps_of old)
+
+-- memory was refused in one of those steps, after the ones before it were done
+pub record Stops (old new : WorldView) : Type 0 where
+  pub count : ℕ
+  pub next : Step
+  pub is_next : slice_get (steps_of old) count ≡ Some next
+  pub gave_up : GivesUp (world_after old (take count (steps_of old))) new next

@@ -1,2 +1,3 @@
 pub mod Auto
+pub mod Laws
 pub mod mirrors

@@ -1,28 +1,17 @@
 //! The automatic phase: what happens by itself when no step is listed, until the world is quiet.
-ghost use Rattle.std.specs.Prelude.{◌≡◌, ◌≢◌, ◌<◌, ◌≤◌, ◌^◌, true, false, None, drop, find, length, slice_get, take, IfSome};
+ghost use Rattle.std.specs.Prelude.{◌≡◌, ◌<◌, ◌+◌, ◌≤◌, true, false, None, drop, find, length, slice_get, take, IfSome, IsErr, OnOk};
 ghost use Rattle.tp_model.specs.Words.step;
 ghost use Rattle.tp_model.specs.Valid as valid;
 ghost use Rattle.tp_machine.specs.Machine.{is_armed_at, is_submitted, refusal};
 ghost use Rattle.tp_machine.specs.Named.{IsStepOf, IsTxn};
 ghost use Rattle.tp_auto.specs.Auto as automatic;
-ghost use Rattle.tp_auto.specs.Auto.{Drains, IsSpent, Stops, is_quiet, lowest_unsubmitted, next_of};
+ghost use Rattle.tp_auto.specs.Auto.{Drains, Stops, bound_of, is_quiet, lowest_unsubmitted, next_of};
 ghost use Rattle.tp_auto.specs.mirrors.Ups as ups;
 ghost use Rattle.tp_auto.specs.mirrors.Ups.{KnowsUp};
 
 use std::alloc::Global;
 use tp_machine::World;
-use tp_types::{Actor, Scenario, ServerId, Step, Transaction, TxnId};
-
-/// How a drain ended.
-#[derive(Drop)]
-pub enum Drained {
-    /// The world is quiet.
-    Quiet,
-    /// All steps of the budget were taken, and the world is not quiet.
-    Budget,
-    /// Memory was refused: the world is given up.
-    NoMemory,
-}
+use tp_types::{Actor, NoMemory, Scenario, ServerId, Step, TxnId};
 
 /// The lowest transaction that is not submitted.
 #[tactic(auto, using(crate::proofs::BoundLemmas::few_txns_valid))]
@@ -115,7 +104,7 @@ fn next_running(world: &World, cursor: u32) -> Option<Step>
     ensures ids { IfSome result (IsStepOf world.now.scenario) }
     ensures allowed { IfSome result (λ step. refusal world.now.machine.state step ≡ None) }
 {
-    match world.oldest() {
+    match world.first_undelivered() {
         Some(mail) => Some(Step::Deliver { mail }),
         None => match lowest_unsubmitted(world) {
             Some(txn) => Some(Step::Submit { txn }),
@@ -124,9 +113,9 @@ fn next_running(world: &World, cursor: u32) -> Option<Step>
     }
 }
 
-/// The next step that comes by itself, or None where the world is quiet: the lowest actor that is down boots, or else the
-/// oldest undelivered mail is delivered, or else the lowest transaction that is not submitted is submitted, or else the timer of
-/// the first armed transaction at or after the cursor fires, going round.
+/// The next step that comes by itself, or None where the world is quiet: the lowest actor that is down boots, or else
+/// the oldest undelivered mail is delivered, or else the lowest transaction that is not submitted is submitted, or else
+/// the timer of the first armed transaction at or after the cursor fires, going round.
 pub fn next(world: &World, cursor: u32) -> Option<Step>
     ensures value { result ≡ next_of world.now.scenario world.now.machine cursor }
     ensures ids { IfSome result (IsStepOf world.now.scenario) }
@@ -174,87 +163,35 @@ fn cursor_after(scenario: &Scenario, taken: &Step, cursor: u32) -> u32
     }
 }
 
-/// Takes automatic steps until the world is quiet, or so many of them were taken, or memory is refused. A world that was
-/// given up before stays as it is. Who is down is looked for at the first step and after each boot alone, as no other automatic
-/// step takes an actor down.
-pub fn drain(world: &mut World, alloc: Global, budget: u64) -> Drained
-    ensures steps { result ≢ Drained.NoMemory → Drains world.old world.new budget }
-    ensures quiet { result ≡ Drained.Quiet → is_quiet world.new.scenario world.new.machine ≡ true }
-    ensures budget { result ≡ Drained.Budget → IsSpent world.old world.new budget }
-    ensures memory { result ≡ Drained.NoMemory → world.new.given_up ≡ true }
-    ensures stopped { result ≡ Drained.NoMemory → world.old.given_up ≡ false
-        → Stops world.old world.new budget }
+/// Takes automatic steps until the world is quiet, or memory is refused. No bound is counted: that the world comes to
+/// be quiet, and within the bound, is proved. A world that was given up before stays as it is. Who is down is looked
+/// for at the first step and after each boot alone, as no other automatic step takes an actor down.
+pub fn drain(world: &mut World, alloc: Global) -> Result<(), NoMemory>
+    ensures quiet { OnOk result (is_quiet world.new.scenario world.new.machine ≡ true) }
+    ensures steps { OnOk result (Drains world.old world.new) }
+    ensures few { length world.new.machine.state.steps
+        ≤ length world.old.machine.state.steps + bound_of world.old }
+    ensures memory { IsErr result → world.new.given_up ≡ true }
+    ensures stopped { IsErr result → world.old.given_up ≡ false → Stops world.old world.new }
+    ensures given_up { world.old.given_up ≡ true → IsErr result }
     ensures unchanged { world.old.given_up ≡ true → world.new ≡ world.old }
     ensures scenario { world.new.scenario ≡ world.old.scenario }
 {
     if world.given_up() {
-        return Drained::NoMemory;
+        return Err(NoMemory);
     }
+    let _facts = world.facts();
     let mut cursor = 0;
     let mut all_up = false;
-    for _turn in 0..budget {
-        match next_knowing(world, cursor, all_up) {
-            None => return Drained::Quiet,
-            Some(step) => {
-                let after = cursor_after(world.scenario(), &step, cursor);
-                match world.step(alloc, &step) {
-                    Ok(()) => {
-                        cursor = after;
-                        all_up = keeps_up(&step);
-                    }
-                    Err(_) => return Drained::NoMemory,
-                }
+    while let Some(step) = next_knowing(world, cursor, all_up) {
+        let after = cursor_after(world.scenario(), &step, cursor);
+        match world.step(alloc, &step) {
+            Ok(()) => {
+                cursor = after;
+                all_up = keeps_up(&step);
             }
+            Err(_) => return Err(NoMemory),
         }
     }
-    match next_knowing(world, cursor, all_up) {
-        None => Drained::Quiet,
-        Some(_) => Drained::Budget,
-    }
-}
-
-/// The most queries of a transaction, 0 if there is none.
-fn most_queries(txns: &[Transaction]) -> u64
-    ensures { result ≡ automatic.most_queries txns.now }
-{
-    txns.iter()
-        .fold(0, |most, txn| most.max(txn.queries.len() as u64))
-}
-
-/// The greatest round limit, at least 2.
-fn most_rounds(txns: &[Transaction]) -> u64
-    ensures { result ≡ automatic.greatest_rounds txns.now }
-{
-    txns.iter()
-        .fold(2, |most, txn| most.max(u64::from(txn.rounds)))
-}
-
-#[tactic(auto, using(crate::proofs::BoundLemmas::work_is_small))]
-fn bound_by(txns: u64, queries: u64, rounds: u64, servers: u64, undelivered: u64) -> u64
-    requires txns { txns ≤ 128 }
-    requires queries { queries ≤ 16 }
-    requires rounds { rounds ≤ 16 }
-    requires servers { servers ≤ 16 }
-    requires undelivered { undelivered < 2 ^ 32 }
-    ensures { result ≡ automatic.bound_by txns queries rounds servers undelivered }
-{
-    let turns = txns * ((queries + 1) * (3 * rounds + 3) + servers + 2) + 1;
-    let each = 16 * (txns + 1) * (servers + 1);
-    3 * undelivered + turns * each + servers + txns + 2
-}
-
-/// How many automatic steps a run allows from a world with so many undelivered mails on.
-#[tactic(auto, using(crate::proofs::BoundLemmas::few_servers_valid, crate::proofs::BoundLemmas::few_txns_valid, crate::proofs::BoundLemmas::most_queries_valid, crate::proofs::BoundLemmas::most_rounds_valid))]
-pub fn bound(scenario: &Scenario, undelivered: u64) -> u64
-    requires valid { valid.is_valid scenario.now ≡ true }
-    requires few { undelivered < 2 ^ 32 }
-    ensures { result ≡ automatic.bound scenario.now undelivered }
-{
-    bound_by(
-        scenario.txns.len() as u64,
-        most_queries(scenario.txns.as_slice()),
-        most_rounds(scenario.txns.as_slice()),
-        scenario.servers.len() as u64,
-        undelivered,
-    )
+    Ok(())
 }

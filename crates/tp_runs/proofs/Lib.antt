@@ -16,7 +16,9 @@ pub mod refusals
 pub mod restarts
 pub mod runs
 pub mod serial_data
+pub mod served
 pub mod sizes
 pub mod trust
 pub mod trusted
 pub mod walks
+pub mod weights

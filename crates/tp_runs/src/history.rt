@@ -46,16 +46,6 @@ pub fn mails(world: &World) -> u64
     world.mails()
 }
 
-/// How many mails are undelivered. It takes a time in the number of all mails.
-pub fn undelivered_count(world: &World) -> u64
-    ensures value { result ≡ length world.now.machine.undelivered }
-    ensures few { world.now.given_up ≡ false
-        → result ≤ mails_most * length world.now.machine.state.steps }
-{
-    let _facts = world.facts();
-    world.undelivered_count()
-}
-
 /// How many steps and mails there were, and the value of each item: its opening value, overlaid by the commits that its
 /// server has settled, also while that server is down, by what its log leaves. Where every transaction is finished, its
 /// coordinator up, each has ended at all its servers, and these are the values that all commits leave.

@@ -26,8 +26,7 @@
 //!   history is trusted so far; where all transactions are finished they have ended; and where they have ended the
 //!   values are those of all commits (`laws::histories_are_trusted`: `trusted`, `ended`, `whole`)
 //! - In a world that is not given up at most 128 times as many mails were sent as steps were done, though a
-//!   single step may send more; so no more are undelivered (`history::mails`: `few`;
-//!   `history::undelivered_count`: `few`)
+//!   single step may send more (`history::mails`: `few`)
 //! - The law behind it: of every scenario that is run, no list of steps that name what exists sends more than
 //!   128 times as many mails as it has steps (`laws::mails_are_few`)
 //! - Of every scenario that is run, after every list of steps that name what exists, no record on an actor's log is

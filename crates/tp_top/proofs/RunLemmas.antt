@@ -20,8 +20,6 @@ pub answers_reported : (old new : Option (List ℕ)) (faults faults' : ℕ) (byt
     → TakesAll old new bytes → is_valid sc ≡ true → Reads bytes sc → IsReported sc answer → Answers Run old new faults faults' answer
 answers_reported old new faults faults' bytes sc (answer.Text text) taken formed reads h =
     record { bytes = bytes; scenario = sc; taken = taken; reads = reads; rests = run_rests sc formed h.rested; text_is = h.text_is }
-answers_reported old new faults faults' bytes sc answer.Budget taken formed reads h =
-    record { bytes = bytes; scenario = sc; taken = taken; reads = reads; goes_on = h }
 answers_reported old new faults faults' bytes sc answer.NoMemory taken formed reads h = tt
 answers_reported old new faults faults' bytes sc (answer.Refused line) taken formed reads h =
     inr (record { bytes = bytes; scenario = sc; taken = taken; reads = reads; refused = h.refused; first = h.first; line_is = h.line_is })
@@ -32,13 +30,11 @@ pub answers_refused : (old new : Option (List ℕ)) (faults faults' : ℕ) (why 
 answers_refused old new faults faults' why (answer.Refused line) cause h = inl (record { why = why; cause = cause; line_is = h })
 answers_refused old new faults faults' why answer.NoMemory cause h = tt
 answers_refused old new faults faults' why (answer.Text text) cause h = absurd h
-answers_refused old new faults faults' why answer.Budget cause h = absurd h
 answers_refused old new faults faults' why answer.ReadFault cause h = absurd h
 
 -- what comes of the large scenario is the answer to its command
 answers_counted : (old new : Option (List ℕ)) (faults faults' : ℕ) (count : ℕ) (answer : Answer) → is_valid (scenario_of count) ≡ true → IsCounted count answer → Answers (Bulk count) old new faults faults' answer
 answers_counted old new faults faults' count (answer.Text text) formed h = record { rests = run_rests (scenario_of count) formed h.rested; text_is = h.text_is }
-answers_counted old new faults faults' count answer.Budget formed h = h
 answers_counted old new faults faults' count answer.NoMemory formed h = tt
 answers_counted old new faults faults' count (answer.Refused line) formed h = absurd h
 answers_counted old new faults faults' count answer.ReadFault formed h = absurd h

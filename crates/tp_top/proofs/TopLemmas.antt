@@ -13,16 +13,15 @@ use Rattle.tp_io.specs.Whole.{TakesAtMost, TakesExactly, input_max}
 use Rattle.tp_scenario.specs.declared.from_bytes.ScenarioError.{ScenarioError}
 use Rattle.tp_scenario.specs.declared.from_bytes.ScenarioError.TheVariants as error
 use Rattle.tp_top.specs.declared.status.Status.{Status}
-use Rattle.tp_top.specs.declared.status.Status.TheVariants.{Done, Refused, ReadFault, NoMemory, Budget}
+use Rattle.tp_top.specs.declared.status.Status.TheVariants.{Done, Refused, ReadFault, NoMemory}
 use Rattle.tp_machine.specs.Machine.{ending_of}
-use Rattle.tp_auto.specs.Auto.{is_quiet}
 use Rattle.tp_top.proofs.ByThemselves.{automatic_by_themselves}
 use Rattle.tp_top.specs.Headline.{CountsTrusted, PrintsTrusted}
 use Rattle.tp_top.specs.Refusals.{refusal_line, step_line}
 use Rattle.tp_top.specs.Input.{AreRefused, Reads, TakesAll}
-use Rattle.tp_top.specs.Run.{ComesToRest, FailsFor, HasNoEnd, HasNoRest, HasRefusal, HasText, IsBulk, IsInputRefused, IsLine, IsOfCommand, IsRun, RefusesFor, RefusesStep, RunsOut, RunsTo, TakesRefused, after_listed, automatic, automatic_bound, final, first_refused}
+use Rattle.tp_top.specs.Run.{ComesToRest, FailsFor, HasRefusal, HasText, IsBulk, IsInputRefused, IsLine, IsOfCommand, IsRun, RefusesFor, RefusesStep, RunsTo, TakesRefused, after_listed, automatic, automatic_bound, final, first_refused}
 use Rattle.tp_top.specs.declared.listed.StepRefusal.{StepRefusal}
-use Rattle.tp_top.specs.Top.{EndsCounted, EndsRightly}
+use Rattle.tp_top.specs.Top.{Ends, EndsRightly}
 use Rattle.tp_types.specs.Faults.{Rose}
 use Rattle.tp_types.specs.Spelling.{number_of}
 use Rattle.tp_words.proofs.TextLemmas.{one_command}
@@ -118,13 +117,6 @@ same_refused bytes one other refused also r s e f = sym e ∙ (ap first_refused 
 refused_or_lawful : (bytes : List ℕ) (one other : Scenario) (refused : StepRefusal) → Reads bytes one → Reads bytes other → first_refused one ≡ Some refused → first_refused other ≡ None → ⊥
 refused_or_lawful bytes one other refused r s e f = let same : Some refused ≡ None = same_refused bytes one other (Some refused) None r s e f in cc
 
-quiet_or_restless : (bytes : List ℕ) (one other : Scenario) → Reads bytes one → Reads bytes other
-    → is_quiet one (final one) ≡ true → is_quiet other (final other) ≡ false → ⊥
-quiet_or_restless bytes one other r s quiet restless =
-    let same : is_quiet one (final one) ≡ is_quiet other (final other) =
-    ap (λ (sc : Scenario). is_quiet sc (final sc)) (same_scenario bytes one other r s) in
-    cc
-
 -- ---- the statuses
 
 -- want of memory may come for every cause
@@ -134,8 +126,7 @@ memory_rightly input notes notes' =
       too_long = λ _. inr refl;
       refused = λ _ _. inr refl;
       stopped = λ _ _ _ _. inr refl;
-      at_rest = λ _ _ _ _. inr refl;
-      restless = λ _ _ _ _. inr refl;
+      lawful = λ _ _ _. inr refl;
     }
 
 -- a report comes of a scenario whose run comes to rest
@@ -147,20 +138,7 @@ report_rightly input left' text notes notes' r =
       too_long = λ long. absurd (refused_or_read input error.TooLong r.scenario (long_refused input long) reads);
       refused = λ why s. absurd (refused_or_read input why r.scenario s reads);
       stopped = λ sc refused other e. absurd (refused_or_lawful input sc r.scenario refused other reads e r.rests.lawful);
-      at_rest = λ _ _ _ _. inl refl;
-      restless = λ sc other _ restless. absurd (quiet_or_restless input r.scenario sc reads other r.rests.quiet restless);
-    }
-
--- the bound is met by a scenario whose run does not come to rest
-budget_rightly : (input : List ℕ) (left' notes notes' : Option (List ℕ)) → RunsOut (Some input) left' → EndsRightly input Budget notes notes'
-budget_rightly input left' notes notes' r =
-    let reads : Reads input r.scenario = subst (λ (bs : List ℕ). Reads bs r.scenario) (whole_input input left' r.bytes r.taken) r.reads in
-    record {
-      too_long = λ long. absurd (refused_or_read input error.TooLong r.scenario (long_refused input long) reads);
-      refused = λ why s. absurd (refused_or_read input why r.scenario s reads);
-      stopped = λ sc refused other e. absurd (refused_or_lawful input sc r.scenario refused other reads e r.goes_on.lawful);
-      at_rest = λ sc other _ quiet. absurd (quiet_or_restless input sc r.scenario other reads quiet r.goes_on.restless);
-      restless = λ _ _ _ _. inl refl;
+      lawful = λ _ _ _. inl refl;
     }
 
 -- a refusal has its line
@@ -173,8 +151,7 @@ refused_rightly input notes notes' why r written =
       too_long = λ long. inl (refl, line error.TooLong (long_refused input long));
       refused = λ other s. inl (refl, line other s);
       stopped = λ sc _ s _. absurd (refused_or_read input why sc r s);
-      at_rest = λ sc s _ _. absurd (refused_or_read input why sc r s);
-      restless = λ sc s _ _. absurd (refused_or_read input why sc r s);
+      lawful = λ sc s _. absurd (refused_or_read input why sc r s);
     }
 
 taken_rightly : (input : List ℕ) (left' notes notes' : Option (List ℕ)) (why : ScenarioError) → TakesRefused (Some input) left' why
@@ -203,8 +180,7 @@ step_rightly input left' notes notes' line r written =
       too_long = λ long. absurd (refused_or_read input error.TooLong r.scenario (long_refused input long) reads);
       refused = λ why s. absurd (refused_or_read input why r.scenario s reads);
       stopped = λ sc refused other e. inl (refl, subst (Appends notes notes') (r.line_is ∙ same_step sc refused other e) written);
-      at_rest = λ sc other lawful _. absurd (refused_or_lawful input r.scenario sc r.refused reads other r.first lawful);
-      restless = λ sc other lawful _. absurd (refused_or_lawful input r.scenario sc r.refused reads other r.first lawful);
+      lawful = λ sc other lawful. absurd (refused_or_lawful input r.scenario sc r.refused reads other r.first lawful);
     }
   where
     own : Reads input r.scenario
@@ -234,10 +210,6 @@ report_complete : (left left' : Option (List ℕ)) (text : List ℕ) (notes note
 report_complete None left' text notes notes' r = tt
 report_complete (Some input) left' text notes notes' r = report_rightly input left' text notes notes' r
 
-budget_complete : (left left' notes notes' : Option (List ℕ)) → RunsOut left left' → Complete left Budget notes notes'
-budget_complete None left' notes notes' r = tt
-budget_complete (Some input) left' notes notes' r = budget_rightly input left' notes notes' r
-
 refusal_complete : (left left' notes notes' : Option (List ℕ)) (line : List ℕ) → HasRefusal left left' line → Appends notes notes' line → Complete left Refused notes notes'
 refusal_complete None left' notes notes' line r written = tt
 refusal_complete (Some input) left' notes notes' line r written = line_rightly input left' notes notes' line r written
@@ -263,10 +235,6 @@ pub text_complete : (words : List Text) (command : Command) (left left' : Option
 text_complete words Run left left' text notes notes' are run has = report_complete left left' text notes notes' has
 text_complete words (Bulk count) left left' text notes notes' are run has = absurd (not_both words count are run)
 
-pub end_complete : (words : List Text) (command : Command) (left left' notes notes' : Option (List ℕ)) → IsCommand words command → IsRun words → HasNoEnd command left left' → Complete left Budget notes notes'
-end_complete words Run left left' notes notes' are run has = budget_complete left left' notes notes' has
-end_complete words (Bulk count) left left' notes notes' are run has = absurd (not_both words count are run)
-
 pub refused_complete : (words : List Text) (command : Command) (left left' notes notes' : Option (List ℕ)) (line : List ℕ) → IsCommand words command → IsRun words → RefusesFor command left left' line → Appends notes notes' line
     → Complete left Refused notes notes'
 refused_complete words Run left left' notes notes' line are run r written = refusal_complete left left' notes notes' line r written
@@ -278,34 +246,13 @@ failed_complete (Bulk count) left left' notes notes' faults faults' fails none =
 
 -- ---- the large scenario
 
-pub memory_counted : (count : ℕ) → EndsCounted count NoMemory
-memory_counted count = record { at_rest = λ _. inr refl; restless = λ _. inr refl }
-
-line_counted : (count : ℕ) (text : List ℕ) → IsLine count text → EndsCounted count Done
-line_counted count text h = record { at_rest = λ _. inl refl; restless = λ restless. absurd (contrary h.rests.quiet restless) }
-  where
-    contrary : {b : Bool} → b ≡ true → b ≡ false → ⊥
-    contrary quiet restless = cc
-
-restless_counted : (count : ℕ) → HasNoRest (scenario_of count) → EndsCounted count Budget
-restless_counted count h = record { at_rest = λ quiet. absurd (contrary quiet h.restless); restless = λ _. inl refl }
-  where
-    contrary : {b : Bool} → b ≡ true → b ≡ false → ⊥
-    contrary quiet restless = cc
-
-pub text_counted : (words : List Text) (command : Command) (count : ℕ) (left left' : Option (List ℕ)) (text : List ℕ) → IsCommand words command → IsBulk words count → HasText command left left' text → EndsCounted count Done
-text_counted words Run count left left' text are bulk has = absurd (not_both words count bulk are)
-text_counted words (Bulk other) count left left' text are bulk has = line_counted count text (subst (λ (n : ℕ). IsLine n text) (same_count words other count are bulk) has)
-
-pub end_counted : (words : List Text) (command : Command) (count : ℕ) (left left' : Option (List ℕ)) → IsCommand words command → IsBulk words count → HasNoEnd command left left' → EndsCounted count Budget
-end_counted words Run count left left' are bulk has = absurd (not_both words count bulk are)
-end_counted words (Bulk other) count left left' are bulk has = restless_counted count (subst (λ (n : ℕ). HasNoRest (scenario_of n)) (same_count words other count are bulk) has)
-
-pub refused_counted : (words : List Text) (command : Command) (count : ℕ) (status : Status) (left left' : Option (List ℕ)) (line : List ℕ) → IsCommand words command → IsBulk words count → RefusesFor command left left' line → EndsCounted count status
+-- no step of it is refused
+pub refused_counted : (words : List Text) (command : Command) (count : ℕ) (status : Status) (left left' : Option (List ℕ)) (line : List ℕ) → IsCommand words command → IsBulk words count → RefusesFor command left left' line → Ends status Done
 refused_counted words Run count status left left' line are bulk r = absurd (not_both words count bulk are)
 refused_counted words (Bulk other) count status left left' line are bulk r = absurd r
 
-pub failed_counted : (words : List Text) (command : Command) (count : ℕ) (status : Status) (left left' : Option (List ℕ)) (faults faults' : ℕ) → IsCommand words command → IsBulk words count → FailsFor command left left' faults faults' → EndsCounted count status
+-- and it reads no input
+pub failed_counted : (words : List Text) (command : Command) (count : ℕ) (status : Status) (left left' : Option (List ℕ)) (faults faults' : ℕ) → IsCommand words command → IsBulk words count → FailsFor command left left' faults faults' → Ends status Done
 failed_counted words Run count status left left' faults faults' are bulk r = absurd (not_both words count bulk are)
 failed_counted words (Bulk other) count status left left' faults faults' are bulk r = absurd r
 

@@ -1,5 +1,5 @@
 -- What a run is: from bytes, or a number, to the world after all steps, and its report or its line.
-use Rattle.std.specs.Prelude.{◌≡◌, ◌⊎◌, ℕ, ◌+◌, ◌*◌, ◌≤◌, List, ◌++◌, length, true, false, Option, Some, None}
+use Rattle.std.specs.Prelude.{◌≡◌, ◌⊎◌, ℕ, ◌+◌, ◌*◌, ◌≤◌, List, ◌++◌, length, true, Option, Some, None}
 use Rattle.tp_model.specs.Words.{Scenario, Step, Text}
 use Rattle.tp_types.specs.Faults.{Rose}
 use Rattle.tp_io.specs.Whole.{TakesAtMost, TakesExactly, input_max}
@@ -84,11 +84,6 @@ pub record ComesToRest (sc : Scenario) : Type 0 where
   pub few_mails : length (final sc).state.mails ≤ mails_most * length (all_steps sc)
   pub printable : IsPrintableState sc (final sc).state
 
--- no listed step is refused, and as many automatic steps as the bound are done without an end
-pub record HasNoRest (sc : Scenario) : Type 0 where
-  pub lawful : first_refused sc ≡ None
-  pub restless : is_quiet sc (final sc) ≡ false
-
 -- ---- what comes of an input
 
 -- the input was read whole as a scenario whose run comes to rest, and the text is its report
@@ -99,14 +94,6 @@ pub record RunsTo (old new : Option (List ℕ)) (text : List ℕ) : Type 0 where
   pub reads : Reads bytes scenario
   pub rests : ComesToRest scenario
   pub text_is : text ≡ report_of scenario
-
--- the input was read whole as a scenario whose run does not come to rest within the bound
-pub record RunsOut (old new : Option (List ℕ)) : Type 0 where
-  pub bytes : List ℕ
-  pub scenario : Scenario
-  pub taken : TakesAll old new bytes
-  pub reads : Reads bytes scenario
-  pub goes_on : HasNoRest scenario
 
 -- the input was read whole, and its bytes are refused so
 pub record TakesRefused (old new : Option (List ℕ)) (why : ScenarioError) : Type 0 where
@@ -156,11 +143,6 @@ abbrev pub HasText : Command → Option (List ℕ) → Option (List ℕ) → Lis
 HasText Run old new text = RunsTo old new text
 HasText (Bulk count) old new text = IsLine count text
 
--- the run that the command asks for does not come to rest within its bound
-abbrev pub HasNoEnd : Command → Option (List ℕ) → Option (List ℕ) → Type 0
-HasNoEnd Run old new = RunsOut old new
-HasNoEnd (Bulk count) old new = HasNoRest (scenario_of count)
-
 -- the command is refused with this line: a large scenario never is
 abbrev pub RefusesFor : Command → Option (List ℕ) → Option (List ℕ) → List ℕ → Type 0
 RefusesFor Run old new line = HasRefusal old new line
@@ -176,5 +158,4 @@ abbrev pub Answers : Command → Option (List ℕ) → Option (List ℕ) → ℕ
 Answers command old new faults faults' (answer.Text text) = HasText command old new text.0
 Answers command old new faults faults' (answer.Refused line) = RefusesFor command old new line.0
 Answers command old new faults faults' answer.ReadFault = FailsFor command old new faults faults'
-Answers command old new faults faults' answer.Budget = HasNoEnd command old new
 Answers command old new faults faults' answer.NoMemory = Unit {0}

@@ -1,7 +1,7 @@
 -- The exit status of each end of a run.
 use Rattle.std.specs.Prelude.{ℕ}
 use Rattle.tp_top.specs.declared.status.Status.{Status}
-use Rattle.tp_top.specs.declared.status.Status.TheVariants.{Done, Refused, Usage, ReadFault, WriteFault, NoMemory, Budget}
+use Rattle.tp_top.specs.declared.status.Status.TheVariants.{Done, Refused, Usage, ReadFault, WriteFault, NoMemory}
 
 abbrev pub status_number : Status → ℕ
 status_number Done = 0
@@ -10,4 +10,3 @@ status_number Usage = 2
 status_number ReadFault = 3
 status_number WriteFault = 4
 status_number NoMemory = 5
-status_number Budget = 6

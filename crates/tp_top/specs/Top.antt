@@ -1,5 +1,5 @@
 -- What the top call promises at each status: what was read, what was written, and why.
-use Rattle.std.specs.Prelude.{◌≡◌, ◌⊎◌, ◌<◌, ℕ, List, [], length, true, false, Option, Some, None}
+use Rattle.std.specs.Prelude.{◌≡◌, ◌⊎◌, ◌<◌, ℕ, List, [], length, Option, Some, None}
 use Rattle.std.specs.Io.KnownBytes.{Appends}
 use Rattle.tp_model.specs.Words.{Scenario, Text}
 use Rattle.tp_types.specs.Faults.{Rose}
@@ -7,15 +7,13 @@ use Rattle.tp_io.specs.Whole.{AppendsFront, input_max}
 use Rattle.tp_scenario.specs.declared.from_bytes.ScenarioError.{ScenarioError}
 use Rattle.tp_scenario.specs.declared.from_bytes.ScenarioError.TheVariants as error
 use Rattle.tp_top.specs.declared.status.Status.{Status}
-use Rattle.tp_top.specs.declared.status.Status.TheVariants.{Done, Refused, Usage, ReadFault, WriteFault, NoMemory, Budget}
+use Rattle.tp_top.specs.declared.status.Status.TheVariants.{Done, Refused, Usage, ReadFault, WriteFault, NoMemory}
 use Rattle.tp_top.specs.declared.listed.StepRefusal.{StepRefusal}
-use Rattle.tp_auto.specs.Auto.{is_quiet}
-use Rattle.tp_bulk.specs.Bulk.{scenario_of}
 use Rattle.tp_words.specs.Commands.{IsCommand, IsNoCommand}
 use Rattle.tp_words.specs.declared.commands.Command.{Command}
 use Rattle.tp_top.specs.Refusals.{refusal_line, step_line, usage_line}
 use Rattle.tp_top.specs.Input.{AreRefused, Reads}
-use Rattle.tp_top.specs.Run.{FailsFor, HasNoEnd, HasText, RefusesFor, final, first_refused}
+use Rattle.tp_top.specs.Run.{FailsFor, HasText, RefusesFor, first_refused}
 
 -- what a call saw of a stream: what it tells before the call and after it, and its counts of faults
 pub record Stream : Type 0 where
@@ -73,14 +71,6 @@ pub record IsReadFault (call : Call) : Type 0 where
   pub out_kept : IsUntouched call.out
   pub notes_kept : IsUntouched call.notes
 
--- the words are a command, the automatic steps of its run came to their bound, and nothing was written
-pub record IsBudget (call : Call) : Type 0 where
-  pub command : Command
-  pub words_are : IsCommand call.words command
-  pub goes_on : HasNoEnd command call.input.old call.input.new
-  pub out_kept : IsUntouched call.out
-  pub notes_kept : IsUntouched call.notes
-
 -- nothing was written
 pub record IsNoMemory (call : Call) : Type 0 where
   pub out_kept : IsUntouched call.out
@@ -121,7 +111,6 @@ EndsWith Usage call = IsUsage call
 EndsWith ReadFault call = IsReadFault call
 EndsWith WriteFault call = IsOutFault call ⊎ (IsRefusalFault call ⊎ IsUsageFault call)
 EndsWith NoMemory call = IsNoMemory call
-EndsWith Budget call = IsBudget call
 
 -- ---- which status comes, where the input is told and no count rose
 
@@ -134,7 +123,7 @@ EndsRefused status notes notes' line =
 abbrev pub Ends : Status → Status → Type 0
 Ends status wanted = (status ≡ wanted) ⊎ (status ≡ NoMemory)
 
--- each cause in the input has its status, and its line where it is a refusal
+-- each cause in the input has its status, and its line where it is a refusal; a scenario of which no listed step is refused is done
 pub record EndsRightly (input : List ℕ) (status : Status) (notes notes' : Option (List ℕ))
     : Type 0 where
   pub too_long : input_max < length input → EndsRefused status notes notes' (refusal_line error.TooLong)
@@ -143,12 +132,4 @@ pub record EndsRightly (input : List ℕ) (status : Status) (notes notes' : Opti
   pub stopped : (sc : Scenario) (refused : StepRefusal) → Reads input sc
       → first_refused sc ≡ Some refused
       → EndsRefused status notes notes' (step_line sc refused.at refused.why)
-  pub at_rest : (sc : Scenario) → Reads input sc → first_refused sc ≡ None
-      → is_quiet sc (final sc) ≡ true → Ends status Done
-  pub restless : (sc : Scenario) → Reads input sc → first_refused sc ≡ None
-      → is_quiet sc (final sc) ≡ false → Ends status Budget
-
--- a large scenario that comes to rest is done, and one that does not comes to its bound
-pub record EndsCounted (count : ℕ) (status : Status) : Type 0 where
-  pub at_rest : is_quiet (scenario_of count) (final (scenario_of count)) ≡ true → Ends status Done
-  pub restless : is_quiet (scenario_of count) (final (scenario_of count)) ≡ false → Ends status Budget
+  pub lawful : (sc : Scenario) → Reads input sc → first_refused sc ≡ None → Ends status Done

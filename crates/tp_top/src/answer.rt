@@ -39,8 +39,6 @@ pub enum Answer {
     Refused(Text),
     /// The input failed.
     ReadFault,
-    /// The automatic steps came to their bound without an end.
-    Budget,
     /// No memory was to be had.
     NoMemory,
 }
@@ -120,7 +118,6 @@ fn report_in(alloc: Global, world: &mut World, scenario: &Scenario) -> Result<An
 {
     match run(world, alloc, scenario)? {
         RunEnd::Stopped(refused) => Ok(Answer::Refused(step_line(alloc, scenario, refused)?)),
-        RunEnd::Restless => Ok(Answer::Budget),
         RunEnd::AtRest => Ok(Answer::Text(text_of(alloc, world)?)),
     }
 }

@@ -64,7 +64,6 @@ fn count_in(
 {
     match run(world, alloc, scenario)? {
         RunEnd::Stopped(_) => unreachable!(),
-        RunEnd::Restless => Ok(Answer::Budget),
         RunEnd::AtRest => Ok(Answer::Text(line_in(alloc, count, world)?)),
     }
 }

@@ -4,14 +4,13 @@ ghost use Rattle.tp_model.specs.Valid as valid;
 ghost use Rattle.tp_machine.specs.Machine.{ending_of};
 ghost use Rattle.tp_machine.specs.WorldView.{start};
 ghost use Rattle.tp_runs.specs.Laws.{IsTrustedState};
-ghost use Rattle.tp_top.specs.Run.{automatic_bound};
 ghost use Rattle.tp_top.specs.mirrors.Answers.{HasRun, IsListed, IsWhole};
 
 use crate::listed::{StepRefusal, follow};
 use std::alloc::Global;
-use tp_auto::{Drained, bound, drain};
+use tp_auto::drain;
 use tp_machine::World;
-use tp_runs::history::{self, undelivered_count};
+use tp_runs::history;
 use tp_types::{Ending, NoMemory, Scenario};
 
 /// How a run ends.
@@ -21,8 +20,6 @@ pub enum RunEnd {
     AtRest,
     /// A listed step is refused.
     Stopped(StepRefusal),
-    /// The automatic steps came to their bound without an end.
-    Restless,
 }
 
 /// Does all steps of a scenario in its world before the first one.
@@ -42,21 +39,8 @@ fn settle(world: &mut World, alloc: Global) -> Result<RunEnd, NoMemory>
     requires here { IsListed world.old }
     ensures { IfOk result (HasRun world.old.scenario world.new) }
 {
-    let budget = budget_of(world);
-    match drain(world, alloc, budget) {
-        Drained::NoMemory => Err(NoMemory),
-        Drained::Budget => Ok(RunEnd::Restless),
-        Drained::Quiet => Ok(RunEnd::AtRest),
-    }
-}
-
-/// How many automatic steps a world is allowed after all of its listed ones. Its undelivered mails are few: at most 100,000 steps are
-/// listed, and they send at most 128 times as many mails.
-fn budget_of(world: &World) -> u64
-    requires here { IsListed world.now }
-    ensures { result ≡ automatic_bound world.now.scenario }
-{
-    bound(world.scenario(), undelivered_count(world))
+    drain(world, alloc)?;
+    Ok(RunEnd::AtRest)
 }
 
 /// How a world stands, of whose history all is told that holds at this moment, and once its transactions are finished.

@@ -1,27 +1,26 @@
-//! The top call of the cluster's program, and what stands directly under it: runs to their end, the large scenario's run, and the lines of
-//! refusals.
+//! The top call of the cluster's program, and what stands directly under it: runs to their end, the large scenario's
+//! run, and the lines of refusals.
 //!
 //! What is promised, with the contract that carries it:
 //!
 //! - The headline, which names no machine: at Done, for the command `run`, the input was read whole as a scenario, and
-//!   exactly the report of a trusted history of it was written, whose steps are the listed ones and then such as come by
-//!   themselves; it has few mails, and can be read back (`tpvc`: `printed`). For the command `bulk` exactly the line of
-//!   such a history of the large scenario was written (`tpvc`: `counted`)
+//!   exactly the report of a trusted history of it was written, whose steps are the listed ones and then such as come
+//!   by themselves; it has few mails, and can be read back (`tpvc`: `printed`). For the command `bulk` exactly the line
+//!   of such a history of the large scenario was written (`tpvc`: `counted`)
 //! - Each status has its number (`Status::number`)
-//! - The bound of a world after its listed steps is the scenario's (`ended::budget_of`)
-//! - At Done the words are a command, and the output has gained exactly what it asks for, and the notes nothing. For `run`
-//!   exactly the bytes that were taken from the input, up to its end, read as a scenario, the machine refuses none of its
-//!   listed steps (`first_refused`), and after all steps it is quiet; the text is the report's of this machine's facts and
-//!   ending. For `bulk` it is the line of the machine that runs the large scenario. The history is trusted
-//!   (`TrustedHistory`): no two actors decide a transaction differently, every commit's proofs evaluate true as its scheme
-//!   demands, every abort has its cause, data are those of a serial run, what comes from outside is what the steps say,
-//!   every transaction was submitted, decided, and settled so at each of its servers, and the values are those that the
-//!   servers have settled, which are those that all commits leave (`tpvc`: `ended`: `IsDone`)
-//! - At Refused the words are `run`, the notes have gained exactly the line of a refusal, and the output nothing; the cause
-//!   stands in what was taken (`Run.RefusesInput`), or it is the first listed step that the machine refuses, with its
-//!   number and the reason (`Run.RefusesStep`) (`tpvc`: `ended`: `IsRefused`)
-//! - At Usage the words are no command, the notes have gained the line on usage, and the output nothing (`tpvc`: `ended`:
-//!   `IsUsage`)
+//! - At Done the words are a command, and the output has gained exactly what it asks for, and the notes nothing. For
+//!   `run` exactly the bytes that were taken from the input, up to its end, read as a scenario, the machine refuses
+//!   none of its listed steps (`first_refused`), and after all steps it is quiet; the text is the report's of this
+//!   machine's facts and ending. For `bulk` it is the line of the machine that runs the large scenario. The history is
+//!   trusted (`TrustedHistory`): no two actors decide a transaction differently, every commit's proofs evaluate true as
+//!   its scheme demands, every abort has its cause, data are those of a serial run, what comes from outside is what the
+//!   steps say, every transaction was submitted, decided, and settled so at each of its servers, and the values are
+//!   those that the servers have settled, which are those that all commits leave (`tpvc`: `ended`: `IsDone`)
+//! - At Refused the words are `run`, the notes have gained exactly the line of a refusal, and the output nothing; the
+//!   cause stands in what was taken (`Run.RefusesInput`), or it is the first listed step that the machine refuses, with
+//!   its number and the reason (`Run.RefusesStep`) (`tpvc`: `ended`: `IsRefused`)
+//! - At Usage the words are no command, the notes have gained the line on usage, and the output nothing (`tpvc`:
+//!   `ended`: `IsUsage`)
 //! - For words that are not the command `run` the input stays as it was (`tpvc`: `unread`)
 //! - At every status at most 16,777,217 bytes of the input were taken (`tpvc`: `taken`)
 //! - At ReadFault the words are `run`, the input's count of faults rose, what was taken is a front of what it had, and
@@ -30,17 +29,15 @@
 //!   and the cause are as at Done, Refused or Usage; that sink has gained a front of the very text or line,
 //!   which is not the whole, and the other nothing (`tpvc`: `ended`: `IsOutFault`, `IsRefusalFault`,
 //!   `IsUsageFault`)
-//! - At Budget the machine of the scenario that was read, or of the large one, is not quiet after the bound's number of
-//!   automatic steps, and nothing was written (`tpvc`: `ended`: `IsBudget`)
 //! - At NoMemory nothing was written (`tpvc`: `ended`: `IsNoMemory`)
 //! - Where the notes' count of faults did not rise, words that are no command are answered by Usage or NoMemory
 //!   (`tpvc`: `called`)
 //! - For the word `run`, an input that tells its bytes, and no count that rose: too many bytes are answered by
 //!   `refused toolong`, any other bytes that are refused by the line of their refusal, with its path, a
-//!   scenario of which a listed step is refused by the line of the first such step, one that comes to rest by
-//!   Done, and one that does not by Budget; or any of them by NoMemory (`Top.EndsRightly`) (`tpvc`: `complete`)
-//! - For the command `bulk`, where the output's count of faults did not rise: a large scenario that comes to rest is
-//!   answered by Done, and one that does not by Budget; or by NoMemory (`Top.EndsCounted`) (`tpvc`: `finished`)
+//!   scenario of which a listed step is refused by the line of the first such step, and any other scenario by Done, as
+//!   it comes to rest; or any of them by NoMemory (`Top.EndsRightly`) (`tpvc`: `complete`)
+//! - For the command `bulk`, where the output's count of faults did not rise, the answer is Done or NoMemory (`tpvc`:
+//!   `finished`)
 //!
 //! What a source or sink does not tell is not known: the standard streams of the program tell none of their
 //! bytes, so of them the clauses say nothing.

@@ -17,8 +17,6 @@ pub enum Status {
     WriteFault,
     /// No memory was to be had.
     NoMemory,
-    /// The steps after the listed ones came to their limit.
-    Budget,
 }
 
 impl Status {
@@ -33,7 +31,6 @@ impl Status {
             Status::ReadFault => 3,
             Status::WriteFault => 4,
             Status::NoMemory => 5,
-            Status::Budget => 6,
         }
     }
 }

@@ -5,7 +5,7 @@ ghost use Rattle.tp_io.specs.Whole.{TakesAtMost, input_max};
 ghost use Rattle.tp_top.specs.declared.status.Status.TheVariants as Status;
 ghost use Rattle.tp_top.specs.Headline.{CountsTrusted, PrintsTrusted};
 ghost use Rattle.tp_top.specs.Run.{IsBulk, IsRun};
-ghost use Rattle.tp_top.specs.Top.{Ends, EndsCounted, EndsRightly, EndsWith};
+ghost use Rattle.tp_top.specs.Top.{Ends, EndsRightly, EndsWith};
 ghost use Rattle.tp_words.specs.Commands.{IsNoCommand};
 
 use crate::answer::{Answer, answer_to};
@@ -15,9 +15,9 @@ use tp_io::{Sink, Source, write_all};
 use tp_types::{NoMemory, Text};
 use tp_words::command_of;
 
-/// Does all that the program does. For the command `run` it reads the input, and writes its report to `out`, or why there is none to
-/// `notes`; for the command `bulk` with a number it makes a large scenario, and writes the line of its run to `out`. It always returns.
-/// The whole text is made before the first write, and the writes take no memory.
+/// Does all that the program does. For the command `run` it reads the input, and writes its report to `out`, or why
+/// there is none to `notes`; for the command `bulk` with a number it makes a large scenario, and writes the line of its
+/// run to `out`. It always returns. The whole text is made before the first write, and the writes take no memory.
 pub fn tpvc<I: Source, O: Sink, N: Sink>(
     alloc: Global,
     words: &[Text],
@@ -54,8 +54,9 @@ pub fn tpvc<I: Source, O: Sink, N: Sink>(
       };
     }) }
 
-    // Where no count rose, words that are no command are answered by usage, each cause in an input that is told by its status, and a
-    // large scenario by whether its run comes to rest.
+    // Where no count rose, words that are no command are answered by usage, each cause in an input that is told by its
+    // status, so that a scenario of which no listed step is refused has its report, and a large scenario has its line;
+    // or by want of memory.
     ensures called { IsNoCommand words.now → ¬ (Rose (N.faults notes.old) (N.faults notes.new))
         → Ends result Status.Usage }
     ensures complete { IsRun words.now → ¬ (Rose (I.faults input.old) (I.faults input.new))
@@ -64,7 +65,7 @@ pub fn tpvc<I: Source, O: Sink, N: Sink>(
         → IfSome (I.left input.old) (λ bytes.
         EndsRightly bytes result (N.written notes.old) (N.written notes.new)) }
     ensures finished { (count : ℕ) → IsBulk words.now count
-        → ¬ (Rose (O.faults out.old) (O.faults out.new)) → EndsCounted count result }
+        → ¬ (Rose (O.faults out.old) (O.faults out.new)) → Ends result Status.Done }
 
     // At every status at most one byte more than an input may have is read, and where the words are not `run` none is.
     ensures taken { TakesAtMost (input_max + 1) (I.left input.old) (I.left input.new) }
@@ -90,7 +91,6 @@ pub fn tpvc<I: Source, O: Sink, N: Sink>(
             Err(_) => Status::WriteFault,
         },
         Answer::ReadFault => Status::ReadFault,
-        Answer::Budget => Status::Budget,
         Answer::NoMemory => Status::NoMemory,
     }
 }

@@ -1,18 +1,19 @@
-//! Calls on the world of the first scenario that no scenario makes: a clock that comes to its end, the bound of the automatic
-//! phase, automatic steps that come to their budget, and what a timer sends after each step.
+//! Calls on the world of the first scenario that no scenario makes: a clock that comes to its end, a drain and the next step
+//! before and after it, the oldest mail, and what a timer sends after each step.
+ghost use Rattle.std.specs.Prelude.{◌≡◌, ◌<◌};
+
 use crate::run::FIRST;
+use std::marker::Brand;
 use std::process::Abort;
-use tp_auto::{Drained, bound, drain, next};
+use std::sync::ledger::{Blank, Ledger};
+use tp_auto::{drain, next};
 use tp_machine::{StepError, World};
 use tp_runs::history::start as start_of;
 use tp_scenario::read;
-use tp_types::{Fact, Step, TxnId, What};
+use tp_types::{Fact, Step, Steps, TxnId, What};
 
 /// The last moment of the clock.
 const LAST: u64 = (1 << 63) - 1;
-
-/// The bound of the first scenario: one transaction of one query, one server, at most eight rounds.
-const BOUND: u64 = (2 * 27 + 3 + 1) * 16 * 2 * 2 + 1 + 1 + 2;
 
 fn start(rt: &(impl Abort + AllocGlobal)) -> World {
     let scenario = read(rt.alloc(), FIRST.as_bytes()).ok();
@@ -61,30 +62,25 @@ fn lets_time_pass_up_to_the_last_moment(rt: HostRuntime) {
     assert!(rt; has_both);
 }
 
-fn bound_of(rt: &(impl Abort + AllocGlobal)) -> u64 {
-    let scenario = read(rt.alloc(), FIRST.as_bytes()).ok();
-    bound(&scenario.expect(rt, "a scenario"), 0)
-}
-
-#[test]
-fn has_its_bound(rt: HostRuntime) {
-    assert_eq!(rt; bound_of(&rt), BOUND);
-}
-
-/// The mail that is delivered next, once automatic steps of that number came to their budget.
-fn next_mail_after(rt: &impl AllocGlobal, world: &mut World, budget: u64) -> Option<u64> {
-    match (drain(world, rt.alloc(), budget), next(world, 0)) {
-        (Drained::Budget, Some(Step::Deliver { mail })) => Some(mail),
+/// How many steps and mails there are once the world was drained, where no step is next in it.
+fn drained(rt: &impl AllocGlobal, world: &mut World) -> Option<(usize, u64)> {
+    match (drain(world, rt.alloc()), next(world, 0)) {
+        (Ok(()), None) => Some((world.steps().len(), world.mails())),
         _ => None,
     }
 }
 
+/// The first scenario takes nine automatic steps, and a world that is quiet none.
 #[test]
-fn comes_to_its_budget(rt: HostRuntime) {
+fn comes_to_rest(rt: HostRuntime) {
     let mut world = start(&rt);
-    let mail = next_mail_after(&rt, &mut world, 8);
+    let began = next(&world, 0).is_some();
+    let first = drained(&rt, &mut world);
+    let again = drained(&rt, &mut world);
     drop(world);
-    assert_eq!(rt; mail, Some(7));
+    assert!(rt; began);
+    assert_eq!(rt; first, Some((9, 8)));
+    assert_eq!(rt; again, Some((9, 8)));
 }
 
 /// Submits the one transaction.
@@ -132,4 +128,32 @@ fn sends_again_what_is_outstanding(rt: HostRuntime) {
     let last = deliver_and_fire(&rt, &mut world, 14);
     drop(world);
     assert_eq!(rt; last, Some((16, false)));
+}
+
+/// The oldest undelivered mail, and then, once mail 0 is lost.
+fn oldest_before_and_after_loss<L: Ledger>(
+    rt: &impl AllocGlobal,
+    world: &mut World,
+    blank: Blank,
+) -> (Option<u64>, Option<u64>)
+    requires name { blank.name ≡ L.name }
+    requires parts { blank.parts ≡ L.parts }
+    requires some { 0 < blank.parts }
+{
+    let mut steps: Steps<L> = Steps::none(blank);
+    let before = world.oldest(&mut steps);
+    match world.step(rt.alloc(), &Step::Lose { mail: 0 }) {
+        Ok(()) => (before, world.oldest(&mut steps)),
+        Err(_) => (before, before),
+    }
+}
+
+#[test]
+fn knows_the_oldest_mail(rt: HostRuntime) {
+    let mut world = start(&rt);
+    assert!(rt; submit(&rt, &mut world));
+    let oldest = oldest_before_and_after_loss::<Brand>(&rt, &mut world, Blank::new(1));
+    drop(world);
+    assert_eq!(rt; oldest.0, Some(0));
+    assert_eq!(rt; oldest.1, None);
 }

@@ -14,7 +14,7 @@ use Rattle.tp_auto.specs.Auto.{is_quiet, world_after}
 use Rattle.tp_bulk.specs.Bulk.{scenario_of}
 use Rattle.tp_top.specs.Listed.{refused_from}
 use Rattle.tp_top.specs.Refusals.{refusal_line, step_line}
-use Rattle.tp_top.specs.Run.{HasNoRest, after_listed, bulk_line, final, first_refused, report_of}
+use Rattle.tp_top.specs.Run.{after_listed, bulk_line, final, first_refused, report_of}
 
 -- ---- listed steps
 
@@ -41,7 +41,6 @@ pub record IsAtRest (sc : Scenario) (world : WorldView) : Type 0 where
 abbrev pub HasRun : Scenario → WorldView → RunEnd → Type 0
 HasRun sc world end.AtRest = IsAtRest sc world
 HasRun sc world (end.Stopped refused) = first_refused sc ≡ Some refused
-HasRun sc world end.Restless = HasNoRest sc
 
 -- ---- what comes of a scenario that was read
 
@@ -77,7 +76,6 @@ pub record IsStopped (sc : Scenario) (line : List ℕ) : Type 0 where
 abbrev pub IsReported : Scenario → Answer → Type 0
 IsReported sc (answer.Text text) = IsRunTo sc text.0
 IsReported sc (answer.Refused line) = IsStopped sc line.0
-IsReported sc answer.Budget = HasNoRest sc
 IsReported sc answer.NoMemory = Unit {0}
 IsReported sc answer.ReadFault = ⊥
 
@@ -85,7 +83,6 @@ IsReported sc answer.ReadFault = ⊥
 abbrev pub IsCounted : ℕ → Answer → Type 0
 IsCounted count (answer.Text text) = IsCountedTo count text.0
 IsCounted count (answer.Refused line) = ⊥
-IsCounted count answer.Budget = HasNoRest (scenario_of count)
 IsCounted count answer.NoMemory = Unit {0}
 IsCounted count answer.ReadFault = ⊥
 

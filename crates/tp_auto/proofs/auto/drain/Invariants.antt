@@ -1,7 +1,13 @@
-use Rattle.tp_auto.proofs.AutoLemmas.{SoFar}
+use Rattle.tp_auto.proofs.PotentialLemmas.{potential}
+use Rattle.tp_auto.proofs.RestLemmas.{Draining}
 use Rattle.tp_auto.specs.mirrors.Ups.{KnowsUp}
 use Rattle.tp_auto.proofs.auto.drain.Given as goal
 
--- so many automatic steps are done, the cursor stands where they have brought it, and after a step that is no boot nobody is down
-abbrev pub invariant-loop-turn : goal.invariant-loop-turn
-invariant-loop-turn l = SoFar l.initial.world l.world l.budget l._turn l.cursor × KnowsUp l.all_up l.world
+-- the world is on its way to rest, the cursor stands where the steps have brought it, and after a step that is no boot
+-- nobody is down
+abbrev pub invariant-loop-step : goal.invariant-loop-step
+invariant-loop-step l = Draining l.initial.world l.world l.cursor × KnowsUp l.all_up l.world
+
+-- each step makes it less
+abbrev pub decreases-loop-step : goal.decreases-loop-step
+decreases-loop-step l = potential l.world.scenario l.world.machine l.cursor

@@ -8,7 +8,7 @@ unreachable-requires c =
     never_stopped c.args.scenario.now c.args.count c.in-Stopped.field-0 c.requires.made
     (subst (HasRun c.args.scenario.now c.run.new.world) c.in-Stopped.is c.in_ok-run.ensures)
 
-pub returns-in_ok-line_in-in-AtRest : goal.returns-in_ok-line_in-in-AtRest
-returns-in_ok-line_in-in-AtRest c =
+pub returns : goal.returns
+returns c =
     counted_to c.args.scenario.now c.args.count c.run.new.world _ c.requires.made (subst (HasRun c.args.scenario.now c.run.new.world) c.in-AtRest.is c.in_ok-run.ensures)
     c.in_ok-line_in-in-AtRest.ensures.text c.in_ok-line_in-in-AtRest.ensures.so_far c.in_ok-line_in-in-AtRest.ensures.whole
