@@ -193,7 +193,7 @@ impl Coordinator {
     }
 
     /// The server of the transaction's query of this number.
-    pub(crate) fn home_of(&self, scenario: &Scenario, number: u32) -> Option<ServerId>
+    pub fn home_of(&self, scenario: &Scenario, number: u32) -> Option<ServerId>
         ensures { result ≡ row.home_of scenario.now self.now number }
     {
         match self.query_of(scenario, number) {

@@ -210,6 +210,16 @@ request_past pool owner age item mode past =
           (set_past (shown pool).lists item.0 (rule.with_lock owner age mode (rule.entries_at item (shown pool))) over)),
     )
 
+-- ---- the list of an item
+
+pub told_list : (pool : Pool) (item : ItemId) → item.0 < pool.free → list_of pool item.0 ≡ rule.entries_at item (shown pool)
+told_list pool item lt = sym (list_at pool item.0 lt)
+
+pub told_past : (pool : Pool) (item : ItemId) → pool.free ≤ item.0 → [] ≡ rule.entries_at item (shown pool)
+told_past pool item past =
+    let over : length (shown pool).lists ≤ item.0 = subst (λ (n : ℕ). n ≤ item.0) (sym (many_lists pool)) past in
+    sym (get_or_past (shown pool).lists item.0 [] over)
+
 -- after want of memory
 pub refused_kept : (pool new : Pool) → IsKept pool → Keeps pool new → IsKept new
 refused_kept pool new kept keeps = keeps.kept kept

@@ -103,6 +103,21 @@ relinked_twice pool mid new a b = record {
   next = b.next ∙ a.next;
 }
 
+-- a node of the same ring and entry
+node_relinked : (pool : Pool) (node : ℕ) (new : Node) → new.entry ≡ (node_at pool node).entry → new.ring ≡ (node_at pool node).ring
+    → IsRelinked pool (record pool { nodes = set pool.nodes node new })
+node_relinked pool node new same_entry same_ring = record {
+  nodes = length-set pool.nodes node new;
+  items = refl;
+  owners = refl;
+  entries = λ other. field_stays (λ (n : Node). n.entry) pool.nodes node new blank same_entry other;
+  rings = λ other. field_stays (λ (n : Node). n.ring) pool.nodes node new blank same_ring other;
+  free = refl;
+  granted = refl;
+  given = refl;
+  next = refl;
+}
+
 set_relinked : (kind : Kind) (spot : Spot) (pair : Pair) (pool : Pool) → IsRelinked pool (with_links kind spot pair pool)
 set_relinked Item (End ring) pair pool = record {
   nodes = refl;
@@ -126,32 +141,8 @@ set_relinked Owner (End ring) pair pool = record {
   given = refl;
   next = refl;
 }
-set_relinked Item (On node) pair pool =
-    let new = with_pair Item pair (node_at pool node) in
-    record {
-      nodes = length-set pool.nodes node new;
-      items = refl;
-      owners = refl;
-      entries = λ other. field_stays (λ (n : Node). n.entry) pool.nodes node new blank refl other;
-      rings = λ other. field_stays (λ (n : Node). n.ring) pool.nodes node new blank refl other;
-      free = refl;
-      granted = refl;
-      given = refl;
-      next = refl;
-    }
-set_relinked Owner (On node) pair pool =
-    let new = with_pair Owner pair (node_at pool node) in
-    record {
-      nodes = length-set pool.nodes node new;
-      items = refl;
-      owners = refl;
-      entries = λ other. field_stays (λ (n : Node). n.entry) pool.nodes node new blank refl other;
-      rings = λ other. field_stays (λ (n : Node). n.ring) pool.nodes node new blank refl other;
-      free = refl;
-      granted = refl;
-      given = refl;
-      next = refl;
-    }
+set_relinked Item (On node) pair pool = node_relinked pool node (with_pair Item pair (node_at pool node)) refl refl
+set_relinked Owner (On node) pair pool = node_relinked pool node (with_pair Owner pair (node_at pool node)) refl refl
 
 count_stays : (kind : Kind) (pool new : Pool) → IsRelinked pool new → count_of kind new ≡ count_of kind pool
 count_stays Item pool new same = same.items

@@ -1,6 +1,7 @@
 -- One turn of each loop over a ring.
-use Rattle.std.proofs.Common.{◌≡◌, ◌≤◌, ◌<◌, ◌+◌, ◌-◌, ℕ, suc, cond, length, sym, ap, ap₂, subst, ◌∙◌, arith}
+use Rattle.std.proofs.Common.{◌≡◌, ◌≤◌, ◌<◌, ◌+◌, ◌-◌, ◌++◌, ℕ, suc, List, [], ◌∷◌, append-nil, append_assoc, cond, length, sym, ap, ap₂, subst, ◌∙◌, arith}
 use Rattle.std.proofs.lemmas.Bool.{le-ltb}
+use Rattle.tp_lock.specs.declared.entry.LockEntry.{LockEntry}
 use Rattle.tp_lock_chain.specs.declared.ask.Ask.{Ask}
 use Rattle.tp_lock_chain.specs.declared.ask.Found.{Found}
 use Rattle.tp_lock_chain.specs.declared.leave.Passed.{Passed}
@@ -35,6 +36,25 @@ pub look_turns : (ask : Ask) (pool : Pool) (turn : ℕ) (at : Spot) (found more 
 look_turns ask pool turn at found more node got pair whole lt is read meets next rest =
     ap₂ (λ (spot : Spot) (f : Found). rest_says ask pool (length pool.nodes - (turn + 1)) spot f) (ap (λ (p : Pair). p.after) next) (meets ∙ ap (λ (n : Node). met ask n.entry found) read)
     ∙ sym (ap₂ (λ (fuel : ℕ) (spot : Spot). rest_says ask pool fuel spot found) (turns_left (length pool.nodes) turn lt) is) ∙ rest
+
+-- ---- the entries of a list
+
+abbrev pub rest_has : Pool → ℕ → Spot → List LockEntry → List LockEntry
+rest_has pool fuel at entries = entries ++ entries_of pool (walk fuel (links Item pool) at)
+
+pub list_ends : (pool : Pool) (turn : ℕ) (at : Spot) (entries : List LockEntry) (ring : ℕ) (whole : List LockEntry) → turn < length pool.nodes → at ≡ End ring
+    → rest_has pool (length pool.nodes - turn) at entries ≡ whole → entries ≡ whole
+list_ends pool turn at entries ring whole lt is rest =
+    sym (append-nil entries)
+    ∙ (sym (ap₂ (λ (fuel : ℕ) (spot : Spot). rest_has pool fuel spot entries) (turns_left (length pool.nodes) turn lt) is) ∙ rest)
+
+pub list_turns : (pool : Pool) (turn : ℕ) (at : Spot) (entries : List LockEntry) (node : ℕ) (got : Node) (pair : Pair) (whole : List LockEntry) → turn < length pool.nodes → at ≡ On node
+    → got ≡ node_at pool node → pair ≡ links Item pool (On node)
+    → rest_has pool (length pool.nodes - turn) at entries ≡ whole → rest_has pool (length pool.nodes - (turn + 1)) pair.after (entries ++ got.entry ∷ []) ≡ whole
+list_turns pool turn at entries node got pair whole lt is read next rest =
+    append_assoc entries (got.entry ∷ []) (entries_of pool (walk (length pool.nodes - (turn + 1)) (links Item pool) pair.after))
+    ∙ (ap₂ (λ (p : Pair) (n : Node). entries ++ (n.entry ∷ entries_of pool (walk (length pool.nodes - (turn + 1)) (links Item pool) p.after))) next read
+    ∙ (sym (ap₂ (λ (fuel : ℕ) (spot : Spot). rest_has pool fuel spot entries) (turns_left (length pool.nodes) turn lt) is) ∙ rest))
 
 -- ---- the place of a new node
 

@@ -3,7 +3,7 @@ ghost use Rattle.std.specs.Prelude.{◌≡◌, ◌≤◌, ◌+◌, IfOk};
 ghost use Rattle.tp_lock.specs.Rule as rule;
 ghost use Rattle.tp_lock_chain.specs.Cost as cost;
 
-use crate::ask::{Ask, add, adds, answer, look};
+use crate::ask::{Ask, add, adds, answer, entries, look};
 use crate::leave::leave;
 use crate::links::Pool;
 use crate::room::opened;
@@ -12,7 +12,7 @@ use std::alloc::Global;
 use std::marker::Model;
 use std::sync::ledger::Ledger;
 use tp_lock::{Asked, Grant, LockEntry, LockTable};
-use tp_types::{Action, ItemId, NoMemory, Place, Steps, TxnId};
+use tp_types::{Action, ItemId, List, NoMemory, Place, Steps, TxnId};
 
 /// Locks on items, as nodes in rings: each entry is a node of the ring of its item and of that of its owner.
 #[derive(Drop)]
@@ -43,6 +43,16 @@ impl ChainLocks {
                 Ok(ChainLocks { pool })
             }
         }
+    }
+
+    /// The list of an item, for who looks on; it is empty where there is no such item.
+    pub fn entries(&self, alloc: Global, item: ItemId) -> Result<List<LockEntry>, NoMemory>
+        ensures { IfOk result (λ entries. entries ≡ rule.entries_at item self.now) }
+    {
+        if item.0 >= self.pool.free {
+            return Ok(List::new(alloc));
+        }
+        entries(alloc, &self.pool, item.0 as usize)
     }
 
     /// Releases as `release` does, and counts the nodes that are visited or relinked.

@@ -1,5 +1,5 @@
 //! How an owner's nodes are freed, and the lists of its items settled after it. None of it takes memory.
-ghost use Rattle.std.specs.Prelude.{◌≡◌, ◌≤◌, ◌+◌, length};
+ghost use Rattle.std.specs.Prelude.{◌≡◌, ◌≤◌, ◌+◌};
 ghost use Rattle.tp_lock.specs.Rule as rule;
 ghost use Rattle.tp_lock_chain.specs.mirrors.Leave as mirror;
 

@@ -1,5 +1,5 @@
 //! Rings of nodes by index: two links for each node and each end of a ring, and what they change to.
-ghost use Rattle.std.specs.Prelude.{◌≡◌, ◌++◌, ◌∷◌, [], OnOk, OnErr};
+ghost use Rattle.std.specs.Prelude.{◌≡◌};
 ghost use Rattle.tp_lock_chain.specs.mirrors.Links as mirror;
 
 use tp_lock::{Grant, LockEntry};

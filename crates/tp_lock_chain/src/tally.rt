@@ -1,5 +1,5 @@
 //! Who counts the steps of a release, or does not.
-ghost use Rattle.std.specs.Prelude.{◌≡◌, ◌≤◌, ◌+◌, ℕ};
+ghost use Rattle.std.specs.Prelude.{◌≤◌, ◌+◌, ℕ};
 
 use std::sync::ledger::Ledger;
 use tp_types::Steps;

@@ -34,7 +34,7 @@
 //!   such a disk, and empty (`Log::fresh`)
 //! - What the bytes of the disk give is read without a call of it, and a log is opened anew without giving its disk up
 //!   (`Log::records`, `reread`). From a gate on, of which the log told the place, just the records behind it are given
-//!   (`Log::gate`, `reread_behind`)
+//!   (`Log::gate`, `behind`, `reread_behind`)
 #![tactic(auto)]
 
 ghost use Rattle.std.specs.Prelude.{◌≡◌, ◌<◌, ◌^◌, ℕ, List, All};
@@ -52,7 +52,7 @@ mod running;
 
 pub use block::BODY_MAX;
 pub use error::LogError;
-pub use log::Log;
+pub use log::{Log, Tail};
 
 /// Every image of bytes gives a list of records, one alone, which is a function of it, or fails at one place, and never
 /// both.

@@ -8,7 +8,7 @@ ghost use Rattle.tp_offices.specs.Authority.{clock_end};
 ghost use Rattle.tp_offices.specs.Master as office;
 
 use crate::part::{
-    Act, Part, alone, coordinator_crashes_in, coordinator_submits, coordinator_takes, no_act,
+    Act, Part, coordinator_crashes_in, coordinator_submits, coordinator_takes, crash_alone, no_act,
     server_crashes_in, server_takes,
 };
 use std::alloc::Global;
@@ -19,8 +19,8 @@ use tp_offices::{Authority, Master, NoMore};
 use tp_recover::kept_of;
 use tp_server::Server;
 use tp_types::{
-    Actor, AdminId, CredId, Cut, Item, List, Mail, NoMemory, Place, Reaction, Scenario, ServerId,
-    TxnId, What, both,
+    Actor, AdminId, CredId, Cut, Item, List, Mail, NoMemory, Place, Reaction, Record, Scenario,
+    ServerId, TxnId, What, both,
 };
 
 /// The table of locks that each server keeps.
@@ -36,10 +36,12 @@ pub struct Actors {
 }
 
 impl Actors {
+    ghost use Rattle.tp_log.specs.Images.{blocks};
     ghost use Rattle.tp_machine.specs.Fits.{FitLogs};
     ghost use Rattle.tp_machine.specs.Logs as logs;
     ghost use Rattle.tp_machine.specs.mirrors.Acts.{Moves, SameLogs, SameUp, with_down};
-    ghost use Rattle.tp_model.specs.Words.{Mail};
+    ghost use Rattle.tp_machine.specs.Views.{StandsAt, coordinator_at, forces_at, server_at};
+    ghost use Rattle.tp_model.specs.Words.{Mail, Record};
 
     /// The actors as they stand before the first step.
     pub fn opened(alloc: Global, scenario: &Scenario) -> Result<Actors, NoMemory>
@@ -96,6 +98,86 @@ impl Actors {
         }
     }
 
+    /// The records of an actor's log; an office has none.
+    pub fn records(&self, alloc: Global, actor: Actor) -> Result<List<Record>, NoMemory>
+        ensures { IfOk result (λ records. records ≡ logs.records_of self.now actor) }
+    {
+        match actor {
+            Actor::Server(at) => match self.servers.get(at.0 as usize) {
+                None => Ok(List::new(alloc)),
+                Some(part) => part.records(alloc),
+            },
+            Actor::Coordinator(txn) => match self.coordinators.get(txn.0 as usize) {
+                None => Ok(List::new(alloc)),
+                Some(part) => part.records(alloc),
+            },
+            _ => Ok(List::new(alloc)),
+        }
+    }
+
+    /// The place in bytes where an actor's log ends; 0 for an office.
+    pub fn log_end(&self, alloc: Global, actor: Actor) -> Result<u64, NoMemory>
+        ensures { IfOk result (λ place.
+            place ≡ length (blocks (logs.records_of self.now actor))) }
+    {
+        match actor {
+            Actor::Server(at) => match self.servers.get(at.0 as usize) {
+                None => Ok(0),
+                Some(part) => part.end(alloc),
+            },
+            Actor::Coordinator(txn) => match self.coordinators.get(txn.0 as usize) {
+                None => Ok(0),
+                Some(part) => part.end(alloc),
+            },
+            _ => Ok(0),
+        }
+    }
+
+    /// The records of an actor's log from a place on at which it has ended.
+    pub fn records_behind(
+        &self,
+        alloc: Global,
+        actor: Actor,
+        place: u64,
+    ) -> Result<List<Record>, NoMemory>
+        requires { (before : List Record) × (more : List Record)
+            × StandsAt (logs.records_of self.now actor) place before more }
+        ensures { IfOk result (λ records. (before more : List Record)
+            → StandsAt (logs.records_of self.now actor) place before more → records ≡ more) }
+    {
+        match actor {
+            Actor::Server(at) => match self.servers.get(at.0 as usize) {
+                None => Ok(List::new(alloc)),
+                Some(part) => part.records_behind(alloc, place),
+            },
+            Actor::Coordinator(txn) => match self.coordinators.get(txn.0 as usize) {
+                None => Ok(List::new(alloc)),
+                Some(part) => part.records_behind(alloc, place),
+            },
+            _ => Ok(List::new(alloc)),
+        }
+    }
+
+    /// A server, by its number, while it is up.
+    pub fn server(&self, at: ServerId) -> Option<&Server<Locks>>
+        ensures { option_copied result ≡ server_at self.now at }
+    {
+        match self.servers.get(at.0 as usize) {
+            None => None,
+            Some(part) => part.state(),
+        }
+    }
+
+    /// The coordinator of a transaction while it is up.
+    pub fn coordinator(&self, txn: TxnId) -> Option<&Coordinator>
+        ensures { option_copied result ≡ coordinator_at self.now txn }
+    {
+        match self.coordinators.get(txn.0 as usize) {
+            None => None,
+            Some(part) => part.state(),
+        }
+    }
+
     /// The value of each item.
     pub fn values(&self, alloc: Global, scenario: &Scenario) -> Result<List<i128>, NoMemory>
         ensures { IfOk result (λ values.
@@ -118,20 +200,22 @@ impl Actors {
         actor: Actor,
         mail: &Mail,
         cut: Cut,
-    ) -> Result<Act, NoMemory>
+    ) -> Result<(Act, Option<Record>), NoMemory>
         requires few { HasFewRules scenario.now }
         requires fits { FitLogs (machine.receipt scenario.now self.old mail.now actor).actors }
-        ensures ok { IfOk result (λ act. (mails : List Mail)
+        ensures ok { IfOk result (λ made. (mails : List Mail)
             → slice_get mails cut.mail ≡ Some mail.now
             → Moves (machine.crashes scenario.now self.old mails actor (Some cut))
-            (with_down self.new actor) act) }
+            (with_down self.new actor) made.0) }
+        ensures forced { IfOk result (λ made.
+            made.1 ≡ forces_at scenario.now self.old actor mail.now) }
         ensures up { SameUp self.old self.new }
         ensures logs { OnErr result (SameLogs self.old self.new) }
     {
         match actor {
             Actor::Server(at) => self.server_crash_in(alloc, scenario, at, mail, cut),
             Actor::Coordinator(txn) => self.coordinator_crash_in(alloc, scenario, txn, mail, cut),
-            _ => alone(alloc, What::Crashed(actor)),
+            _ => crash_alone(alloc, actor),
         }
     }
 
@@ -142,19 +226,21 @@ impl Actors {
         at: ServerId,
         mail: &Mail,
         cut: Cut,
-    ) -> Result<Act, NoMemory>
+    ) -> Result<(Act, Option<Record>), NoMemory>
         requires few { HasFewRules scenario.now }
         requires fits { FitLogs
             (machine.receipt scenario.now self.old mail.now (actor.Server at)).actors }
-        ensures ok { IfOk result (λ act. (mails : List Mail)
+        ensures ok { IfOk result (λ made. (mails : List Mail)
             → slice_get mails cut.mail ≡ Some mail.now
             → Moves (machine.crashes scenario.now self.old mails (actor.Server at) (Some cut))
-            (with_down self.new (actor.Server at)) act) }
+            (with_down self.new (actor.Server at)) made.0) }
+        ensures forced { IfOk result (λ made.
+            made.1 ≡ forces_at scenario.now self.old (actor.Server at) mail.now) }
         ensures up { SameUp self.old self.new }
         ensures logs { OnErr result (SameLogs self.old self.new) }
     {
         match self.servers.get_mut(at.0 as usize) {
-            None => alone(alloc, What::Crashed(Actor::Server(at))),
+            None => crash_alone(alloc, Actor::Server(at)),
             Some(part) => server_crashes_in(part, alloc, scenario, at, mail, cut),
         }
     }
@@ -166,18 +252,20 @@ impl Actors {
         txn: TxnId,
         mail: &Mail,
         cut: Cut,
-    ) -> Result<Act, NoMemory>
+    ) -> Result<(Act, Option<Record>), NoMemory>
         requires fits { FitLogs
             (machine.receipt scenario.now self.old mail.now (actor.Coordinator txn)).actors }
-        ensures ok { IfOk result (λ act. (mails : List Mail)
+        ensures ok { IfOk result (λ made. (mails : List Mail)
             → slice_get mails cut.mail ≡ Some mail.now
             → Moves (machine.crashes scenario.now self.old mails (actor.Coordinator txn) (Some cut))
-            (with_down self.new (actor.Coordinator txn)) act) }
+            (with_down self.new (actor.Coordinator txn)) made.0) }
+        ensures forced { IfOk result (λ made.
+            made.1 ≡ forces_at scenario.now self.old (actor.Coordinator txn) mail.now) }
         ensures up { SameUp self.old self.new }
         ensures logs { OnErr result (SameLogs self.old self.new) }
     {
         match self.coordinators.get_mut(txn.0 as usize) {
-            None => alone(alloc, What::Crashed(Actor::Coordinator(txn))),
+            None => crash_alone(alloc, Actor::Coordinator(txn)),
             Some(part) => coordinator_crashes_in(part, alloc, scenario, txn, mail, cut),
         }
     }

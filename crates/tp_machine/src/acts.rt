@@ -1,6 +1,6 @@
 //! What a step does to the actors and the history.
 ghost use Rattle.std.specs.Prelude.{◌≡◌, ◌+◌, ◌<◌, ◌^◌, [], length, false, true, Some, None, slice_get, IfOk, OnOk, OnErr};
-ghost use Rattle.std.specs.Option.{option_copied, option_map_or};
+ghost use Rattle.std.specs.Option.{option_and_then, option_copied, option_map_or};
 ghost use Rattle.tp_coord.specs.Row.{is_armed};
 ghost use Rattle.tp_model.specs.Words.actor;
 ghost use Rattle.tp_model.specs.Words.step;
@@ -9,6 +9,7 @@ ghost use Rattle.tp_machine.specs.Fits.{FitLogs, received};
 ghost use Rattle.tp_machine.specs.mirrors.Acts.{HasEitherLogs, Moves, SameLogs, SameUp, with_down};
 ghost use Rattle.tp_machine.specs.mirrors.History.{Notes, SameHistory};
 ghost use Rattle.tp_machine.specs.Machine as machine;
+ghost use Rattle.tp_machine.specs.Views.{cut_off, forces_at, is_cut};
 ghost use Rattle.tp_machine.specs.WorldView.{machine_of, state_of};
 ghost use Rattle.tp_server.specs.Verdicts.{HasFewRules};
 ghost use Rattle.tp_offices.specs.Authority.{clock_end};
@@ -17,12 +18,13 @@ ghost use Rattle.tp_offices.specs.Master as office;
 use crate::actors::{Actors, Locks};
 use crate::error::StepError;
 use crate::history::History;
-use crate::part::{Act, alone, coordinator_boots, no_act, server_boots};
+use crate::part::{Act, alone, coordinator_boots, crash_alone, no_act, server_boots};
 use std::alloc::Global;
 use tp_coord::Coordinator;
 use tp_offices::{CLOCK_END, Master};
 use tp_types::{
-    Actor, AdminId, CredId, Cut, List, Mail, NoMemory, Scenario, ServerId, Step, TxnId, What,
+    Actor, AdminId, CredId, Cut, List, Mail, NoMemory, Record, Scenario, ServerId, Step, TxnId,
+    What,
 };
 
 /// Whether a transaction was submitted.
@@ -217,8 +219,45 @@ fn too_late(clock: u64, by: u64) -> Option<StepError>
     }
 }
 
-/// Does a step that is not refused.
+/// Does a step that is not refused. Where an actor crashes in a receipt, what that was to force is answered.
 pub fn act(
+    actors: &mut Actors,
+    history: &mut History,
+    alloc: Global,
+    scenario: &Scenario,
+    taken: &Step,
+) -> Result<Option<Record>, NoMemory>
+    requires few { HasFewRules scenario.now }
+    requires servers { length scenario.now.servers < 2 ^ 32 }
+    requires allowed { machine.refusal (state_of actors.old history.old) taken.now ≡ None }
+    requires fits { FitLogs
+        (machine.machine_after scenario.now (machine_of actors.old history.old)
+        (received taken.now)).state.actors }
+    ensures ok { OnOk result
+        (machine_of actors.new history.new
+        ≡ machine.machine_after scenario.now (machine_of actors.old history.old) taken.now) }
+    ensures forced { IfOk result (λ forced.
+        forced ≡ cut_off scenario.now (state_of actors.old history.old) taken.now) }
+    ensures same_history { OnErr result (SameHistory history.old history.new) }
+    ensures up { OnErr result (SameUp actors.old actors.new) }
+    ensures logs { OnErr result (HasEitherLogs actors.old
+        (machine.machine_after scenario.now (machine_of actors.old history.old) taken.now).state.actors
+        actors.new) }
+{
+    match *taken {
+        Step::Crash {
+            actor,
+            cut: Some(cut),
+        } => crash_in(actors, history, alloc, scenario, actor, cut),
+        _ => {
+            act_whole(actors, history, alloc, scenario, taken)?;
+            Ok(None)
+        }
+    }
+}
+
+/// Does a step that is not refused, in which no actor crashes in a receipt.
+fn act_whole(
     actors: &mut Actors,
     history: &mut History,
     alloc: Global,
@@ -227,6 +266,7 @@ pub fn act(
 ) -> Result<(), NoMemory>
     requires few { HasFewRules scenario.now }
     requires servers { length scenario.now.servers < 2 ^ 32 }
+    requires whole { is_cut taken.now ≡ false }
     requires allowed { machine.refusal (state_of actors.old history.old) taken.now ≡ None }
     requires fits { FitLogs
         (machine.machine_after scenario.now (machine_of actors.old history.old)
@@ -250,10 +290,7 @@ pub fn act(
         Step::Lose { mail } => lose(actors, history, alloc, mail),
         Step::Timer { txn } => timer(actors, history, alloc, scenario, txn),
         Step::Crash { actor, cut: None } => crash(actors, history, alloc, actor),
-        Step::Crash {
-            actor,
-            cut: Some(cut),
-        } => crash_in(actors, history, alloc, scenario, actor, cut),
+        Step::Crash { cut: Some(_), .. } => unreachable!(),
         Step::Boot {
             actor: Actor::Server(at),
         } => boot_server(actors, history, alloc, scenario, at),
@@ -285,7 +322,8 @@ fn crash(
     Ok(())
 }
 
-/// An actor crashes in the receipt of a mail. Its log has what is left of it before that is noted.
+/// An actor crashes in the receipt of a mail. Its log has what is left of it before that is noted. What the receipt was to force
+/// is answered.
 fn crash_in(
     actors: &mut Actors,
     history: &mut History,
@@ -293,7 +331,7 @@ fn crash_in(
     scenario: &Scenario,
     actor: Actor,
     cut: Cut,
-) -> Result<(), NoMemory>
+) -> Result<Option<Record>, NoMemory>
     requires few { HasFewRules scenario.now }
     requires sent { cut.mail < length history.old.mails }
     requires its { machine.cut_elsewhere history.old.mails actor (Some cut) ≡ None }
@@ -303,13 +341,16 @@ fn crash_in(
         (machine_of actors.new history.new
         ≡ machine.machine_after scenario.now (machine_of actors.old history.old)
         (step.Crash actor (Some cut))) }
+    ensures forced { IfOk result (λ forced.
+        forced ≡ cut_off scenario.now (state_of actors.old history.old)
+        (step.Crash actor (Some cut))) }
     ensures same_history { OnErr result (SameHistory history.old history.new) }
     ensures up { OnErr result (SameUp actors.old actors.new) }
     ensures logs { OnErr result (HasEitherLogs actors.old
         (machine.crashes scenario.now actors.old history.old.mails actor (Some cut)).actors
         actors.new) }
 {
-    let act = receive_cut(
+    let (act, forced) = receive_cut(
         actors,
         alloc,
         scenario,
@@ -321,10 +362,17 @@ fn crash_in(
         actor,
         cut: Some(cut),
     };
-    history.note(taken, act.happened, act.letters)?;
-    history.mark(cut.mail as usize);
-    actors.goes_down(alloc, actor);
-    Ok(())
+    match history.note(taken, act.happened, act.letters) {
+        Ok(()) => {
+            history.mark(cut.mail as usize);
+            actors.goes_down(alloc, actor);
+            Ok(forced)
+        }
+        Err(NoMemory) => {
+            drop(forced);
+            Err(NoMemory)
+        }
+    }
 }
 
 fn receive_cut(
@@ -334,20 +382,22 @@ fn receive_cut(
     mails: &[Mail],
     actor: Actor,
     cut: Cut,
-) -> Result<Act, NoMemory>
+) -> Result<(Act, Option<Record>), NoMemory>
     requires few { HasFewRules scenario.now }
     requires sent { cut.mail < length mails.now }
     requires its { machine.cut_elsewhere mails.now actor (Some cut) ≡ None }
     requires fits { FitLogs
         (machine.delivery scenario.now actors.old (slice_get mails.now cut.mail)).actors }
-    ensures ok { IfOk result (λ act.
+    ensures ok { IfOk result (λ made.
         Moves (machine.crashes scenario.now actors.old mails.now actor (Some cut))
-        (with_down actors.new actor) act) }
+        (with_down actors.new actor) made.0) }
+    ensures forced { IfOk result (λ made. made.1
+        ≡ option_and_then (forces_at scenario.now actors.old actor) (slice_get mails.now cut.mail)) }
     ensures up { SameUp actors.old actors.new }
     ensures logs { OnErr result (SameLogs actors.old actors.new) }
 {
     match mails.get(cut.mail as usize) {
-        None => alone(alloc, What::Crashed(actor)),
+        None => crash_alone(alloc, actor),
         Some(found) => actors.crash_in(alloc, scenario, actor, found, cut),
     }
 }

@@ -16,6 +16,10 @@
 //!   up (`World::facts`: `reached`, `valid`, `named`, `of_steps`; `World::scenario`: `valid`)
 //! - The views show the machine (`World::facts` and `scenario`: `value`; `mails`; `undelivered_count`: `value`;
 //!   `steps`, `given_up`, `down`, `undelivered`, `is_submitted`, `armed`; `ending`: `value`)
+//! - Each mail, each server and coordinator that is up, and the records of each log are shown as the machine has them,
+//!   also those alone that a log gained since it ended at a place (`World::sent`, `server`, `coordinator`, `records`,
+//!   `log_end`, `records_behind`)
+//! - A crash in a receipt tells the record that this was to force (`World::step_with_cut`: `forced`; else as `step`)
 //! - The oldest undelivered mail is the first of the undelivered ones, and it was sent; it is told at one look
 //!   (`World::oldest`: `value`, `sent`, `counted`; `World::first_undelivered` without the count)
 //!
@@ -34,7 +38,7 @@ mod part;
 mod past;
 mod world;
 
-pub use actors::Actors;
+pub use actors::{Actors, Locks};
 pub use error::StepError;
 pub use history::History;
 pub use part::{Act, Part};

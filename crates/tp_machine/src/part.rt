@@ -4,7 +4,9 @@ ghost use Rattle.std.specs.Option.{option_copied, option_map_or};
 ghost use Rattle.tp_coord.specs.Booted.{boot_row};
 ghost use Rattle.tp_lock.specs.Rule as lock;
 ghost use Rattle.tp_machine.specs.Fits.{FitsLog, HasShortLog};
+ghost use Rattle.tp_log.specs.Images.{blocks};
 ghost use Rattle.tp_machine.specs.Logs.{IsDiskOf};
+ghost use Rattle.tp_machine.specs.Views.{StandsAt};
 ghost use Rattle.tp_machine.specs.mirrors.Acts as acts;
 ghost use Rattle.tp_machine.specs.mirrors.Acts.{Acts, Boots};
 ghost use Rattle.tp_machine.specs.Machine as machine;
@@ -138,6 +140,27 @@ impl<S: Drop> Part<S> {
         ensures { IfOk result (λ records. records ≡ self.now.log) }
     {
         self.log.records(alloc)
+    }
+
+    /// The place in bytes where the log ends.
+    pub fn end(&self, alloc: Global) -> Result<u64, NoMemory>
+        ensures { IfOk result (λ place. place ≡ length (blocks self.now.log)) }
+    {
+        if self.log.is_open() {
+            return Ok(self.log.gate());
+        }
+        // a crash has closed it: it ends at what was read of it, or behind that
+        Ok(self.log.behind(alloc, self.past.place)?.end)
+    }
+
+    /// The records from a place on at which the log has ended.
+    pub fn records_behind(&self, alloc: Global, place: u64) -> Result<List<Record>, NoMemory>
+        requires { (before : List Record) × (more : List Record)
+            × StandsAt self.now.log place before more }
+        ensures { IfOk result (λ records. (before more : List Record)
+            → StandsAt self.now.log place before more → records ≡ more) }
+    {
+        Ok(self.log.behind(alloc, place)?.records)
     }
 
     /// Whether the actor is down.
@@ -350,8 +373,17 @@ pub fn coordinator_submits(
     }
 }
 
+/// A crash in a receipt, by which nothing happens but the crash.
+pub fn crash_alone(alloc: Global, actor: Actor) -> Result<(Act, Option<Record>), NoMemory>
+    ensures crash { IfOk result (λ made.
+        made.0 ≡ record { happened = what.Crashed actor ∷ []; letters = [] }) }
+    ensures forced { IfOk result (λ made. made.1 ≡ None) }
+{
+    Ok((alone(alloc, What::Crashed(actor))?, None))
+}
+
 /// A server crashes in the receipt of a mail: what is left of it is on its log. It goes down once that is noted, and is up until
-/// then, with nothing said of its state. After NoMemory its log is as before.
+/// then, with nothing said of its state. What the receipt was to force is answered too. After NoMemory its log is as before.
 #[tactic(auto, using(crate::proofs::basics::Crashes::told_of))]
 pub fn server_crashes_in<L: LockTable + Drop>(
     part: &mut Part<Server<L>>,
@@ -360,28 +392,41 @@ pub fn server_crashes_in<L: LockTable + Drop>(
     at: ServerId,
     mail: &Mail,
     cut: Cut,
-) -> Result<Act, NoMemory>
+) -> Result<(Act, Option<Record>), NoMemory>
     requires few { HasFewRules scenario.now }
     requires fits { IfSome (machine.server_forces scenario.now part.old.up mail.now) FitsLog }
-    ensures ok { IfOk result (λ act.
+    ensures ok { IfOk result (λ made.
         Acts
         (machine.goes_down (machine.server_fact at) (what.Crashed (actor.Server at) ∷ []) part.old
         (machine.cut_record cut (machine.server_forces scenario.now part.old.up mail.now)))
-        (acts.down_part part.new) act) }
+        (acts.down_part part.new) made.0) }
+    ensures forced { IfOk result (λ made.
+        made.1 ≡ machine.server_forces scenario.now part.old.up mail.now) }
     ensures up { machine.is_part_down part.new ≡ machine.is_part_down part.old }
     ensures log { OnErr result (part.new.log ≡ part.old.log) }
 {
     let Some(server) = &mut part.up else {
-        return alone(alloc, What::Crashed(Actor::Server(at)));
+        return crash_alone(alloc, Actor::Server(at));
     };
     let append = server.receive(alloc, scenario, mail)?.append;
     let happened = server_cut_facts(alloc, at, cut, &append);
-    let torn = torn(part, alloc, &append, happened, cut);
-    drop(append);
-    Ok(Act {
-        happened: torn?,
+    match torn(part, alloc, &append, happened, cut) {
+        Ok(happened) => Ok((act_of(alloc, happened), append)),
+        Err(NoMemory) => {
+            drop(append);
+            Err(NoMemory)
+        }
+    }
+}
+
+/// An act that sends nothing.
+fn act_of(alloc: Global, happened: List<What>) -> Act
+    ensures { result ≡ record { happened = happened; letters = [] } }
+{
+    Act {
+        happened,
         letters: List::new(alloc),
-    })
+    }
 }
 
 /// A coordinator crashes in the receipt of a mail, in the same way.
@@ -393,28 +438,31 @@ pub fn coordinator_crashes_in(
     txn: TxnId,
     mail: &Mail,
     cut: Cut,
-) -> Result<Act, NoMemory>
+) -> Result<(Act, Option<Record>), NoMemory>
     requires fits { IfSome (machine.coordinator_forces scenario.now part.old.up mail.now) FitsLog }
-    ensures ok { IfOk result (λ act.
+    ensures ok { IfOk result (λ made.
         Acts
         (machine.goes_down machine.coordinator_fact (what.Crashed (actor.Coordinator txn) ∷ [])
         part.old
         (machine.cut_record cut (machine.coordinator_forces scenario.now part.old.up mail.now)))
-        (acts.down_part part.new) act) }
+        (acts.down_part part.new) made.0) }
+    ensures forced { IfOk result (λ made.
+        made.1 ≡ machine.coordinator_forces scenario.now part.old.up mail.now) }
     ensures up { machine.is_part_down part.new ≡ machine.is_part_down part.old }
     ensures log { OnErr result (part.new.log ≡ part.old.log) }
 {
     let Some(coordinator) = &mut part.up else {
-        return alone(alloc, What::Crashed(Actor::Coordinator(txn)));
+        return crash_alone(alloc, Actor::Coordinator(txn));
     };
     let append = coordinator.receive(alloc, scenario, mail)?.append;
     let happened = coordinator_cut_facts(alloc, txn, cut, &append);
-    let torn = torn(part, alloc, &append, happened, cut);
-    drop(append);
-    Ok(Act {
-        happened: torn?,
-        letters: List::new(alloc),
-    })
+    match torn(part, alloc, &append, happened, cut) {
+        Ok(happened) => Ok((act_of(alloc, happened), append)),
+        Err(NoMemory) => {
+            drop(append);
+            Err(NoMemory)
+        }
+    }
 }
 
 /// Whether a cut leaves the record that was to be forced.

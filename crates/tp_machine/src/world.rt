@@ -1,5 +1,5 @@
 //! The world: the machine of a scenario and the steps that were done.
-ghost use Rattle.std.specs.Prelude.{◌≡◌, ◌≢◌, ℕ, ◌+◌, ◌==◌, ◌<◌, ◌≤◌, ◌*◌, length, true, false, Some, None, is_none, IfOk, IfErr, IfSome, OnOk, OnErr, IsErrOf, IsErr, slice_get};
+ghost use Rattle.std.specs.Prelude.{◌≡◌, ◌≢◌, ℕ, ◌+◌, ◌==◌, ◌++◌, List, ◌<◌, ◌≤◌, ◌*◌, length, true, false, Some, None, is_none, IfOk, IfErr, IfSome, OnOk, OnErr, IsErrOf, IsErr, slice_get};
 ghost use Rattle.std.specs.Option.{option_copied};
 ghost use Rattle.std.specs.List.{list_any};
 ghost use Rattle.tp_model.specs.Valid as valid;
@@ -8,18 +8,26 @@ ghost use Rattle.tp_machine.specs.WorldView.{start, IsReached, HasItsFacts, Does
 ghost use Rattle.tp_machine.specs.Fits.{AllFitLogs};
 ghost use Rattle.tp_machine.specs.Logs.{IsDiskOf, records_of};
 ghost use Rattle.tp_machine.specs.Machine as machine;
+ghost use Rattle.tp_machine.specs.Views.{StandsAt, coordinator_at, cut_off, server_at};
+ghost use Rattle.tp_log.specs.Images.{blocks};
+ghost use Rattle.tp_model.specs.Words.{Record};
 ghost use Rattle.tp_types.specs.Each.{Each};
 ghost use Rattle.tp_machine.specs.Named.{IsActor, IsStepOf};
 
-use crate::actors::Actors;
+use crate::actors::{Actors, Locks};
 use crate::acts::{act, is_armed, is_submitted, refusal};
 use crate::error::StepError;
 use crate::history::History;
 use std::alloc::Global;
 use std::marker::Model;
 use std::sync::ledger::Ledger;
+use tp_coord::Coordinator;
 use tp_device::MemoryDisk;
-use tp_types::{Actor, Ending, Fact, List, NoMemory, Scenario, Step, Steps, TryClone, TxnId};
+use tp_server::Server;
+use tp_types::{
+    Actor, Ending, Fact, List, Mail, NoMemory, Record, Scenario, ServerId, Step, Steps, TryClone,
+    TxnId,
+};
 
 /// A scenario's cluster after the steps that were done. Contracts see the scenario, whether the world is given up, and the
 /// machine. Until the world is given up the machine is what the scenario and the steps give.
@@ -80,6 +88,30 @@ impl World {
             why ≢ StepError.NoMemory → Refuses self.old self.new taken.now why) }
         ensures memory { IsErrOf result StepError.NoMemory → GivesUp self.old self.new taken.now }
     {
+        match self.step_with_cut(alloc, taken) {
+            Ok(forced) => {
+                drop(forced);
+                Ok(())
+            }
+            Err(why) => Err(why),
+        }
+    }
+
+    /// Does a step in the same way. Where an actor crashes in a receipt, the record that this was to force is answered, whether
+    /// the log has it or not.
+    pub fn step_with_cut(
+        &mut self,
+        alloc: Global,
+        taken: &Step,
+    ) -> Result<Option<Record>, StepError>
+        requires ids { IsStepOf self.old.scenario taken.now }
+        ensures ok { OnOk result (Does self.old self.new taken.now) }
+        ensures forced { IfOk result (λ forced.
+            forced ≡ cut_off self.old.scenario self.old.machine.state taken.now) }
+        ensures refused { IfErr result (λ why.
+            why ≢ StepError.NoMemory → Refuses self.old self.new taken.now why) }
+        ensures memory { IsErrOf result StepError.NoMemory → GivesUp self.old self.new taken.now }
+    {
         if self.given_up {
             return Err(StepError::NoMemory);
         }
@@ -92,7 +124,7 @@ impl World {
                 &self.scenario,
                 taken,
             ) {
-                Ok(()) => Ok(()),
+                Ok(forced) => Ok(forced),
                 Err(NoMemory) => {
                     self.given_up = true;
                     Err(StepError::NoMemory)
@@ -221,5 +253,59 @@ impl World {
             mails: self.history.mails.len() as u64,
             values: self.actors.values(alloc, &self.scenario)?,
         })
+    }
+
+    /// Every mail that was sent, in order of number.
+    pub fn sent(&self) -> &List<Mail>
+        ensures { result.now ≡ self.now.machine.state.mails }
+    {
+        &self.history.mails
+    }
+
+    /// A server, by its number, while it is up.
+    pub fn server(&self, at: ServerId) -> Option<&Server<Locks>>
+        ensures { option_copied result ≡ server_at self.now.machine.state.actors at }
+    {
+        self.actors.server(at)
+    }
+
+    /// The coordinator of a transaction while it is up.
+    pub fn coordinator(&self, txn: TxnId) -> Option<&Coordinator>
+        ensures { option_copied result ≡ coordinator_at self.now.machine.state.actors txn }
+    {
+        self.actors.coordinator(txn)
+    }
+
+    /// The records of an actor's log; an office has none. The log is read for it.
+    pub fn records(&self, alloc: Global, actor: &Actor) -> Result<List<Record>, NoMemory>
+        ensures { IfOk result (λ records.
+            records ≡ records_of self.now.machine.state.actors actor.now) }
+    {
+        self.actors.records(alloc, *actor)
+    }
+
+    /// The place in bytes where an actor's log ends.
+    pub fn log_end(&self, alloc: Global, actor: &Actor) -> Result<u64, NoMemory>
+        ensures { IfOk result (λ place.
+            place ≡ length (blocks (records_of self.now.machine.state.actors actor.now))) }
+    {
+        self.actors.log_end(alloc, *actor)
+    }
+
+    /// The records of an actor's log from a place on at which it has ended: those that it gained since. What stands before them
+    /// is not looked at.
+    pub fn records_behind(
+        &self,
+        alloc: Global,
+        actor: &Actor,
+        place: u64,
+    ) -> Result<List<Record>, NoMemory>
+        requires { (before : List Record) × (more : List Record)
+            × StandsAt (records_of self.now.machine.state.actors actor.now) place before more }
+        ensures { IfOk result (λ records. (before more : List Record)
+            → StandsAt (records_of self.now.machine.state.actors actor.now) place before more
+            → records ≡ more) }
+    {
+        self.actors.records_behind(alloc, *actor, place)
     }
 }

@@ -57,6 +57,6 @@ pub rounds_text : (sc : Scenario) (mets front : List Met) (last : Met) → mets 
     → text_of (rounds_tokens sc mets) ≡ codes "rounds " ++ (text_of (flat_map (earlier_met_tokens sc) front) ++ ((text_of (met_front sc last) ++ decimal last.place) ++ 10 ∷ []))
 rounds_text sc mets front last e = ap text_of (some_mets sc mets front last e) ∙ ap (λ (l : List ℕ). codes "rounds " ++ l) (mets_text sc mets front last e)
 
-pub instance_text : (number : ℕ) → text_of (instance_front number) ≡ codes "  instance " ++ (decimal number ++ 32 ∷ [])
+pub instance_text : (number : ℕ) → text_of (instance_front number) ≡ codes "instance " ++ (decimal number ++ 32 ∷ [])
 unfolding instance_front
-instance_text number = ap (λ (l : List ℕ). codes "  instance " ++ l) (append-nil (decimal number ++ 32 ∷ []))
+instance_text number = ap (λ (l : List ℕ). codes "instance " ++ l) (append-nil (decimal number ++ 32 ∷ []))

@@ -122,30 +122,36 @@ abbrev pub uses_tokens : Scenario → List CredId → List Token
 uses_tokens scenario [] = last_word (codes "none") ∷ []
 uses_tokens scenario (first ∷ others) = some_uses_tokens scenario first others
 
--- `proof qN SERVER ADMIN VERSION at P`: which query was proved, by which version, and of which place, after two spaces
+-- a line that stands below a fact, after two spaces
+abbrev pub below : List Token → List Token
+below line = word [] ∷ word [] ∷ line
+
+-- `proof qN SERVER ADMIN VERSION at P`: which query was proved, by which version, and of which place
 unfoldable pub proof_front : Scenario → Verdict → List Token
 proof_front scenario proof =
-    word [] ∷ word [] ∷ word (codes "proof")
+    word (codes "proof")
     ∷ (query_tokens scenario proof.query proof.server
     ++ policy_tokens scenario proof.admin proof.version
     ++ word (codes "at") ∷ word (decimal proof.place) ∷ [])
 
 -- `proof qN SERVER ADMIN VERSION at P rule K uses C1 C2`: a proof of authorisation
-unfoldable pub proof_tokens : Scenario → Verdict → List Token
-proof_tokens scenario proof =
+unfoldable pub proof_line : Scenario → Verdict → List Token
+proof_line scenario proof =
     proof_front scenario proof
     ++ word (codes "rule") ∷ word (rule_word proof.rule) ∷ word (codes "uses")
     ∷ uses_tokens scenario proof.uses
+
+unfoldable pub proof_tokens : Scenario → Verdict → List Token
+proof_tokens scenario proof = below (proof_line scenario proof)
 
 -- the place of a reading of the master, if there was one
 abbrev pub reading_word : Option ℕ → List ℕ
 reading_word None = codes "none"
 reading_word (Some place) = decimal place
 
--- `instance I`: proofs that were looked at together, by their number, after two spaces
+-- `instance I`: proofs that were looked at together, by their number
 unfoldable pub instance_front : ℕ → List Token
-instance_front number =
-    word [] ∷ word [] ∷ word (codes "instance") ∷ word (decimal number) ∷ []
+instance_front number = word (codes "instance") ∷ word (decimal number) ∷ []
 
 -- `instance I reading P`
 unfoldable pub instance_line : ℕ → Option ℕ → List Token
@@ -155,7 +161,7 @@ instance_line number reading =
 -- the line of an instance, and below it its proofs
 unfoldable pub instance_tokens : Scenario → ℕ → Instance → List Token
 instance_tokens scenario number made =
-    instance_line number made.reading ++ flat_map (proof_tokens scenario) made.proofs
+    below (instance_line number made.reading) ++ flat_map (proof_tokens scenario) made.proofs
 
 -- the instances, numbered on from a number
 abbrev pub instances_tokens : Scenario → ℕ → List Instance → List Token
@@ -168,23 +174,30 @@ abbrev pub action_word : Action → List ℕ
 action_word Read = codes "read"
 action_word Write = codes "write"
 
--- `read qN` or `write qN`, after two spaces
+-- `read qN` or `write qN`
 abbrev pub deed_front : Deed → List Token
-deed_front deed =
-    word [] ∷ word [] ∷ word (action_word deed.action) ∷ word (query_word deed.query) ∷ []
+deed_front deed = word (action_word deed.action) ∷ word (query_word deed.query) ∷ []
 
 -- `read qN ITEM VALUE` or `write qN ITEM VALUE`
-abbrev pub deed_tokens : Scenario → Deed → List Token
-deed_tokens scenario deed =
+abbrev pub deed_line : Scenario → Deed → List Token
+deed_line scenario deed =
     deed_front deed
     ++ word (item_name scenario deed.item) ∷ last_word (signed_decimal deed.value) ∷ []
 
--- `commit TXN rounds R`, and below it the instances, counted from 1, and the deeds
+abbrev pub deed_tokens : Scenario → Deed → List Token
+deed_tokens scenario deed = below (deed_line scenario deed)
+
+-- `commit TXN rounds R`
+abbrev pub commit_line : Scenario → TxnId → CommitRecord → List Token
+commit_line scenario txn held =
+    word (codes "commit") ∷ word (txn_name scenario txn) ∷ word (codes "rounds")
+    ∷ last_word (decimal held.rounds) ∷ []
+
+-- its line, and below it the instances, counted from 1, and the deeds
 abbrev pub commit_tokens : Scenario → TxnId → CommitRecord → List Token
 commit_tokens scenario txn held =
-    word (codes "commit") ∷ word (txn_name scenario txn) ∷ word (codes "rounds")
-    ∷ last_word (decimal held.rounds)
-    ∷ (instances_tokens scenario 1 held.instances ++ flat_map (deed_tokens scenario) held.deeds)
+    commit_line scenario txn held
+    ++ (instances_tokens scenario 1 held.instances ++ flat_map (deed_tokens scenario) held.deeds)
 
 -- what a coordinator decided: a commit with what it rests on, or an abort with its cause
 abbrev pub decision_tokens : Scenario → TxnId → Decision → List Token
@@ -214,6 +227,11 @@ what_tokens scenario (Decided txn decision) = decision_tokens scenario txn decis
 what_tokens scenario (Settled server txn outcome) =
     word (codes "settle") ∷ word (server_name scenario server) ∷ word (txn_name scenario txn)
     ∷ last_word (outcome_word outcome) ∷ []
+
+-- the first line of what happened, without its place: of a commit further lines stand below it
+abbrev pub what_line : Scenario → What → List Token
+what_line scenario (Decided txn (Commits held)) = commit_line scenario txn held
+what_line scenario what = what_tokens scenario what
 
 -- a fact, after the place of its step
 abbrev pub fact_tokens : Scenario → Fact → List Token

@@ -1,7 +1,7 @@
 //! What commits rest on: the proofs by instance, and the deeds.
 ghost use Rattle.std.specs.Prelude.{◌≡◌, ◌++◌, OnOk, map};
 ghost use Rattle.std.specs.List.{flat_map};
-ghost use Rattle.tp_report.specs.ReportText.{action_word, commit_tokens, deed_front, deed_tokens, earlier_use, instance_front, instance_line, instance_tokens, instances_tokens, proof_front, proof_tokens, reading_word, rule_word, uses_tokens};
+ghost use Rattle.tp_report.specs.ReportText.{action_word, commit_line, commit_tokens, deed_front, deed_line, deed_tokens, earlier_use, instance_front, instance_line, instance_tokens, instances_tokens, proof_front, proof_line, proof_tokens, reading_word, rule_word, uses_tokens};
 ghost use Rattle.tp_report.specs.Tokens.{text_of};
 
 use crate::piece::{put, put_cred, put_item, put_number, put_policy, put_query, put_txn};
@@ -19,13 +19,26 @@ pub(crate) fn put_commit(
     ensures { OnOk result
         (out.new.items ≡ out.old.items ++ text_of (commit_tokens scenario.now txn held.now)) }
 {
+    put_commit_line(out, scenario, txn, held)?;
+    put_instances(out, scenario, &held.instances)?;
+    put_deeds(out, scenario, &held.deeds)
+}
+
+/// Puts the line of a commit, without what stands below it.
+pub(crate) fn put_commit_line(
+    out: &mut Vec<u8>,
+    scenario: &Scenario,
+    txn: TxnId,
+    held: &CommitRecord,
+) -> Result<(), NoMemory>
+    ensures { OnOk result
+        (out.new.items ≡ out.old.items ++ text_of (commit_line scenario.now txn held.now)) }
+{
     put(out, b"commit ")?;
     put_txn(out, scenario, txn)?;
     put(out, b" rounds ")?;
     put_number(out, held.rounds)?;
-    put(out, b"\n")?;
-    put_instances(out, scenario, &held.instances)?;
-    put_deeds(out, scenario, &held.deeds)
+    put(out, b"\n")
 }
 
 #[tactic(auto, using(crate::proofs::TokenLemmas::text_append))]
@@ -55,12 +68,14 @@ fn put_instance(
         (out.new.items
         ≡ out.old.items ++ text_of (instance_tokens scenario.now number instance.now)) }
 {
+    put(out, b"  ")?;
     put_instance_line(out, number, instance.reading)?;
     put_proofs(out, scenario, &instance.proofs)
 }
 
+/// Puts the line of an instance, by its number from 1.
 #[tactic(auto, unfolding(crate::specs::ReportText::instance_line), using(crate::proofs::TokenLemmas::text_append))]
-fn put_instance_line(
+pub fn put_instance_line(
     out: &mut Vec<u8>,
     number: usize,
     reading: Option<Place>,
@@ -77,7 +92,7 @@ fn put_instance_line(
 fn put_instance_front(out: &mut Vec<u8>, number: usize) -> Result<(), NoMemory>
     ensures { OnOk result (out.new.items ≡ out.old.items ++ text_of (instance_front number)) }
 {
-    put(out, b"  instance ")?;
+    put(out, b"instance ")?;
     put_number(out, number)?;
     put(out, b" ")
 }
@@ -107,10 +122,24 @@ fn put_proofs(
     Ok(())
 }
 
-#[tactic(auto, unfolding(crate::specs::ReportText::proof_tokens), using(crate::proofs::TokenLemmas::text_append))]
+#[tactic(auto, unfolding(crate::specs::ReportText::proof_tokens))]
 fn put_proof(out: &mut Vec<u8>, scenario: &Scenario, proof: &Verdict) -> Result<(), NoMemory>
     ensures { OnOk result
         (out.new.items ≡ out.old.items ++ text_of (proof_tokens scenario.now proof.now)) }
+{
+    put(out, b"  ")?;
+    put_proof_line(out, scenario, proof)
+}
+
+/// Puts the line of a proof.
+#[tactic(auto, unfolding(crate::specs::ReportText::proof_line), using(crate::proofs::TokenLemmas::text_append))]
+pub fn put_proof_line(
+    out: &mut Vec<u8>,
+    scenario: &Scenario,
+    proof: &Verdict,
+) -> Result<(), NoMemory>
+    ensures { OnOk result
+        (out.new.items ≡ out.old.items ++ text_of (proof_line scenario.now proof.now)) }
 {
     put_proof_front(out, scenario, proof)?;
     put(out, b"rule ")?;
@@ -124,7 +153,7 @@ fn put_proof_front(out: &mut Vec<u8>, scenario: &Scenario, proof: &Verdict) -> R
     ensures { OnOk result
         (out.new.items ≡ out.old.items ++ text_of (proof_front scenario.now proof.now)) }
 {
-    put(out, b"  proof ")?;
+    put(out, b"proof ")?;
     put_query(out, scenario, proof.query, proof.server)?;
     put_policy(out, scenario, proof.admin, proof.version)?;
     put(out, b"at ")?;
@@ -186,6 +215,15 @@ fn put_deed(out: &mut Vec<u8>, scenario: &Scenario, deed: &Deed) -> Result<(), N
     ensures { OnOk result
         (out.new.items ≡ out.old.items ++ text_of (deed_tokens scenario.now deed.now)) }
 {
+    put(out, b"  ")?;
+    put_deed_line(out, scenario, deed)
+}
+
+/// Puts the line of what a query did.
+pub fn put_deed_line(out: &mut Vec<u8>, scenario: &Scenario, deed: &Deed) -> Result<(), NoMemory>
+    ensures { OnOk result
+        (out.new.items ≡ out.old.items ++ text_of (deed_line scenario.now deed.now)) }
+{
     put_deed_front(out, deed)?;
     put_item(out, scenario, deed.item)?;
     put(out, b" ")?;
@@ -196,7 +234,6 @@ fn put_deed(out: &mut Vec<u8>, scenario: &Scenario, deed: &Deed) -> Result<(), N
 fn put_deed_front(out: &mut Vec<u8>, deed: &Deed) -> Result<(), NoMemory>
     ensures { OnOk result (out.new.items ≡ out.old.items ++ text_of (deed_front deed.now)) }
 {
-    put(out, b"  ")?;
     put_action(out, deed.action)?;
     put(out, b" q")?;
     put_number(out, deed.query)?;

@@ -1,10 +1,10 @@
 //! Facts, each on a line that begins with its place. A commit has further lines below it.
 ghost use Rattle.std.specs.Prelude.{◌≡◌, ◌++◌, ◌∷◌, [], OnOk, codes, decimal};
-ghost use Rattle.tp_report.specs.ReportText.{decision_tokens, fact_tokens, outcome_word, what_tokens};
+ghost use Rattle.tp_report.specs.ReportText.{decision_tokens, fact_tokens, outcome_word, what_line, what_tokens};
 ghost use Rattle.tp_report.specs.Tokens.{last_word, text_of, word};
 
 use crate::cause::put_cause;
-use crate::commit::put_commit;
+use crate::commit::{put_commit, put_commit_line};
 use crate::piece::{put, put_actor, put_admin, put_cred, put_number, put_server, put_txn};
 use tp_types::{
     Actor, AdminId, Cause, CredId, Decision, Fact, NoMemory, Outcome, Scenario, ServerId, TxnId,
@@ -31,6 +31,16 @@ fn put_what(out: &mut Vec<u8>, scenario: &Scenario, what: &What) -> Result<(), N
         What::Lost(mail) => put_lost(out, *mail),
         What::Decided(txn, decision) => put_decided(out, scenario, *txn, decision),
         What::Settled(server, txn, outcome) => put_settled(out, scenario, *server, *txn, *outcome),
+    }
+}
+
+/// Puts the line of what happened, without its place; of a commit without what stands below it.
+pub fn put_what_line(out: &mut Vec<u8>, scenario: &Scenario, what: &What) -> Result<(), NoMemory>
+    ensures { OnOk result (out.new.items ≡ out.old.items ++ text_of (what_line scenario.now what.now)) }
+{
+    match what {
+        What::Decided(txn, Decision::Commit(held)) => put_commit_line(out, scenario, *txn, held),
+        _ => put_what(out, scenario, what),
     }
 }
 

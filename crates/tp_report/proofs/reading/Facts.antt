@@ -15,7 +15,7 @@ use Rattle.tp_types.specs.declared.records.Decision.TheVariants.{Commit as Commi
 use Rattle.tp_types.specs.declared.records.Outcome.TheVariants.{Commit, Abort}
 use Rattle.tp_types.specs.declared.scenario.Actor.TheVariants.{Server, Coordinator, Master, Authority}
 use Rattle.tp_report.specs.Printable.{are_printable_mets, is_i128, is_printable_cause, is_printable_commit, is_printable_crash, is_printable_deed, is_printable_fact, is_printable_instance, is_printable_met, is_printable_proof, is_printable_what, is_u32, is_u64}
-use Rattle.tp_report.specs.ReportText.{action_word, actor_name, admin_name, item_name, at_tokens, cause_tokens, cred_name, deed_tokens, earlier_met_tokens, earlier_use, fact_tokens, instance_front, instance_line, instance_tokens, instances_tokens, mets_tokens, outcome_word, policy_tokens, proof_front, proof_tokens, query_tokens, query_word, reading_word, rule_word, server_name, some_uses_tokens, txn_name, uses_tokens, what_tokens}
+use Rattle.tp_report.specs.ReportText.{action_word, actor_name, admin_name, item_name, at_tokens, below, cause_tokens, cred_name, deed_tokens, earlier_met_tokens, earlier_use, fact_tokens, instance_front, instance_line, instance_tokens, instances_tokens, mets_tokens, outcome_word, policy_tokens, proof_front, proof_line, proof_tokens, query_tokens, query_word, reading_word, rule_word, server_name, some_uses_tokens, txn_name, uses_tokens, what_tokens}
 use Rattle.tp_report.specs.Tokens.{Token, last_word, word, word_before_comma}
 use Rattle.tp_report.proofs.reading.Names.{Fine, admin_taken, cred_taken, declared_name, item_taken, server_taken, txn_taken}
 use Rattle.tp_report.proofs.reading.Report.{items_tree, lines_of, rows, before_deeds, deed_tree, instance_rest, proof_rest, proofs_of, Hub, Line, More, Open, Uses, aborts, at_tree, cause_tree, closed, commit_of, crash_tree, hub, instances_of, listed, mets_tree, next_line, opens, policy_tree, query_tree, record_of, server_names, some_uses_tree, u32_bound, u64_bound, uses_tree, what_tree, with_deed, with_instance, with_proof, with_use}
@@ -221,7 +221,7 @@ module _ {sc : Scenario} (fine : Fine sc) where
   -- the proof of a present instance, before there are deeds
   proof_way : (facts : List Fact) (held : Open) (made : Instance) (proof : Verdict) → held.current ≡ Some made → held.deeds ≡ [] → is_printable_proof sc proof ≡ true
       → Leads (hub sc) (At (Line facts (Some held))) (proof_tokens sc proof) (At (Line facts (Some (with_proof held made proof))))
-  unfolding proof_tokens proof_front at_tree
+  unfolding proof_tokens proof_line proof_front at_tree
   proof_way facts held made proof current deeds h =
       let whole = three_parts (is_u32 proof.query && is_server sc proof.server && is_admin sc proof.admin) (is_u32 proof.version.0 && is_u64 proof.place && option_map_or is_u32 proof.rule false) (list_all (is_cred sc) proof.uses) h in
       let names = three_parts (is_u32 proof.query) (is_server sc proof.server) (is_admin sc proof.admin) whole.0 in
@@ -262,7 +262,7 @@ module _ {sc : Scenario} (fine : Fine sc) where
 
   -- the line of an instance, before there are deeds
   instance_way : (facts : List Fact) (held : Open) (reading : Option ℕ) → held.deeds ≡ [] → option_map_or is_u64 reading true ≡ true
-      → Leads (hub sc) (At (Line facts (Some held))) (instance_line (held.count + 1) reading) (At (Line facts (Some (with_instance held reading))))
+      → Leads (hub sc) (At (Line facts (Some held))) (below (instance_line (held.count + 1) reading)) (At (Line facts (Some (with_instance held reading))))
   unfolding instance_line instance_front
   instance_way facts held None deeds h =
       Then (known refl refl) (Then (known refl refl) (Then (instance_word sc facts held deeds) (Then (exactly (word (decimal (held.count + 1))) (count_clean held.count)) (Then (known refl refl) (Then (known refl refl) Done)))))

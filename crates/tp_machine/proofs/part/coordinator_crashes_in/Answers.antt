@@ -9,10 +9,10 @@ use Rattle.tp_machine.specs.Machine.{coordinator_fact}
 use Rattle.tp_machine.proofs.basics.Acted.{torn_acted}
 use Rattle.tp_machine.proofs.part.coordinator_crashes_in.Goals as goal
 
-pub returns-clause-ok : goal.returns-clause-ok
-returns-clause-ok c =
+pub returns-in-Ok-clause-ok : goal.returns-in-Ok-clause-ok
+returns-in-Ok-clause-ok c =
     let gave = c.in_ok-append.ensures in
-    rw (← c.part.view_is, c.in-Some.is)
-    (torn_acted coordinator_fact (what.Crashed (actor.Coordinator c.args.txn) ∷ []) (record { up = c.part.inside.up; log = records_on c.part.inside.log }) c.torn-torn.new.part _ c.args.cut c.in_ok-append.field-0 (coordinator_row c.args.scenario.now c.in-Some.coordinator c.args.mail.now).reaction
-    c.in_ok-torn.field-0 c.new.result gave.reaction_is refl (ap (λ (p : Part Coordinator). p.log) c.in_ok-torn.ensures.torn)
-    (c.in_ok-torn.ensures.told _ c.coordinator_cut_facts-happened.ensures) c.new.ensures)
+    rw (← c.part.view_is, c.in-Some.is, c.act_of.ensures)
+    (torn_acted coordinator_fact (what.Crashed (actor.Coordinator c.args.txn) ∷ []) (record { up = c.part.inside.up; log = records_on c.part.inside.log }) c.torn.new.part _ c.args.cut c.in_ok-append.field-0 (coordinator_row c.args.scenario.now c.in-Some.coordinator c.args.mail.now).reaction
+    c.in-Ok.happened [] gave.reaction_is refl (ap (λ (p : Part Coordinator). p.log) c.in-Ok.ensures.torn)
+    (c.in-Ok.ensures.told _ c.coordinator_cut_facts-happened.ensures) refl)

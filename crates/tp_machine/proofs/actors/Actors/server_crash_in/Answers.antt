@@ -21,16 +21,16 @@ server_crashes_in-requires-clause-fits c =
 
 pub returns-in-None-clause-ok : goal.returns-in-None-clause-ok
 returns-in-None-clause-ok c =
-    IfOk-weaker c.alone.result _ _
-    (λ act e mails sent. nobody_cuts c.args.scenario.now c.args.self.now mails c.args.at c.args.cut act (no_member c.args.self.now.servers c.args.at.0 c.in-None.ensures.variant.1) e)
-    c.alone.ensures
+    IfOk-weaker c.crash_alone.result _ _
+    (λ made e mails sent. nobody_cuts c.args.scenario.now c.args.self.now mails c.args.at c.args.cut made.0 (no_member c.args.self.now.servers c.args.at.0 c.in-None.ensures.variant.1) e)
+    c.crash_alone.ensures.crash
 
 pub returns-in-Some-clause-ok : goal.returns-in-Some-clause-ok
 returns-in-Some-clause-ok c =
     let part = c.in-Some.part.now in
     let found = member c.args.self.now.servers c.args.at.0 part (c.in-Some.ensures.variant.0 refl) c.in-Some.ensures.item.1 in
     IfOk-weaker c.server_crashes_in.result _ _
-    (λ act h mails sent. server_cuts c.args.scenario.now c.args.self.now mails c.args.at c.args.cut c.args.mail.now part c.server_crashes_in.new.part act found sent h)
+    (λ made h mails sent. server_cuts c.args.scenario.now c.args.self.now mails c.args.at c.args.cut c.args.mail.now part c.server_crashes_in.new.part made.0 found sent h)
     c.server_crashes_in.ensures.ok
 
 pub returns-in-Some-clause-up : goal.returns-in-Some-clause-up
