@@ -14,6 +14,7 @@
 //! - The printed form of every policy of the grammar says it, and where it is within the limits of a text the
 //!   policy is its one answer; a text of any length and depth says at most one policy; and what a text says is
 //!   of the grammar (`printed_is_exact`: `spelled`, `within`, `alone`, `of_grammar`)
+//! - An atom by itself is put exactly as in the printed form (`put_atom`)
 //! - Printing and then reading gives the answer that the printed form has, which is the policy where that form
 //!   is within the limits, or memory was refused (`print_and_parse`: `answer`, `same`)
 //!
@@ -29,5 +30,5 @@ mod rereading;
 mod scan;
 
 pub use parsing::{DEPTH_MAX, ParseError, TEXT_MAX, parse, texts_have_one_answer};
-pub use printer::{print, printed_is_exact};
+pub use printer::{print, printed_is_exact, put_atom};
 pub use rereading::print_and_parse;

@@ -35,7 +35,8 @@ fn put_value(out: &mut Vec<u8>, value: &Value) -> Result<(), NoMemory>
     }
 }
 
-fn put_atom(
+/// Puts an atom, as a policy is printed.
+pub fn put_atom(
     out: &mut Vec<u8>,
     issuer: &Name,
     attr: &Name,

@@ -1,0 +1,9 @@
+pub mod BehindLemmas
+pub mod CutLemmas
+pub mod DenialLemmas
+pub mod MomentLemmas
+pub mod NearestLemmas
+pub mod OpenLemmas
+pub mod RefutedLemmas
+pub mod SaidLemmas
+pub mod WhyLemmas

@@ -1,0 +1,4 @@
+pub mod Asking
+pub mod Moments
+pub mod Publishers
+pub mod Said
