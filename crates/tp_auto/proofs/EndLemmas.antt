@@ -1,6 +1,6 @@
 -- The automatic phase ends: after every list of steps there are no more automatic steps than the bound, after them the
 -- machine is quiet, and each transaction was decided, and settled so at each of its servers.
-use Rattle.std.proofs.Common.{◌≡◌, ℕ, ◌+◌, ◌≤◌, List, [], ◌∷◌, length, true, Option, Some, None, zero, suc, refl, sym, ap, subst, ◌∙◌, arith}
+use Rattle.std.proofs.Common.{◌≡◌, ℕ, ◌+◌, ◌≤◌, List, length, true, Option, Some, None, zero, suc, refl, sym, ap, subst, ◌∙◌, arith}
 use Rattle.tp_model.specs.Words.{Scenario, Step}
 use Rattle.tp_model.specs.Valid.{is_valid}
 use Rattle.tp_machine.specs.Machine.{Machine, after, after_steps, machine_after}

@@ -1,12 +1,12 @@
 -- How far a drain has come that stops where the world is quiet: it takes no more steps than the bound, and the
 -- potential falls at each of them.
-use Rattle.std.proofs.Common.{◌≡◌, ◌≢◌, ℕ, ◌+◌, ◌<◌, ◌≤◌, List, [], ◌∷◌, length, take, true, false, Option, Some, None, zero, suc, sym, ap, subst, ◌∙◌, arith}
+use Rattle.std.proofs.Common.{◌≡◌, ◌≢◌, ℕ, ◌+◌, ◌<◌, ◌≤◌, List, [], ◌∷◌, length, take, true, false, Some, None, zero, suc, sym, ap, subst, ◌∙◌, arith}
 use Rattle.std.specs.Prelude.{Err, IsErrOf}
 use Rattle.tp_model.specs.Words.{Scenario, Step}
 use Rattle.tp_model.specs.Valid.{is_valid}
 use Rattle.tp_machine.specs.declared.error.StepError.{StepError}
 use Rattle.tp_machine.specs.declared.error.StepError.TheVariants as error
-use Rattle.tp_machine.specs.Machine.{Machine, machine_after, refusal}
+use Rattle.tp_machine.specs.Machine.{Machine, refusal}
 use Rattle.tp_machine.specs.Named.{IsStepOf}
 use Rattle.tp_machine.specs.WorldView.{Does, GivesUp, IsReached, Refuses, WorldView}
 use Rattle.tp_runs.proofs.mails.World.{steps_counted}

@@ -6,7 +6,7 @@ use Rattle.tp_model.specs.Words.{Actor, Scenario, ServerId, Step, TxnId}
 use Rattle.tp_model.specs.Words.actor
 use Rattle.tp_model.specs.Words.step
 use Rattle.tp_machine.specs.declared.actors.Actors.{Actors}
-use Rattle.tp_machine.specs.Machine.{Machine, is_down, machine_after}
+use Rattle.tp_machine.specs.Machine.{is_down, machine_after}
 use Rattle.tp_machine.specs.WorldView.{Does, WorldView}
 use Rattle.tp_runs.proofs.walks.Steps.{KeepsUp}
 use Rattle.tp_runs.proofs.walks.Ups.{StayUp, stay_up}

@@ -1,4 +1,4 @@
-use Rattle.std.proofs.Common.{◌≡◌, ◌∙◌, ℕ, Option, Some, ap, find, take}
+use Rattle.std.proofs.Common.{◌∙◌, ℕ, Option, Some, ap, find, take}
 use Rattle.std.specs.Option.{option_or}
 use Rattle.tp_machine.specs.declared.actors.Actors.{Actors}
 use Rattle.tp_machine.specs.Machine.{is_armed_at}

@@ -1,0 +1,4 @@
+pub mod BlockLemmas
+pub mod GrowLemmas
+pub mod LineLemmas
+pub mod ToldLemmas

@@ -1,0 +1,12 @@
+pub mod Blocks
+pub mod Bodies
+pub mod Laws
+pub mod Lines
+pub mod Phases
+pub mod Records
+pub mod Seen
+pub mod Steps
+pub mod Told
+pub mod Why
+pub mod Words
+pub mod mirrors

@@ -1,0 +1,33 @@
+//! The trace of a run: each step with what arrived, what was forced, what became a fact, what changed, and what was sent.
+//!
+//! What is promised, with the contract that carries it:
+//!
+//! - A step is done exactly as `World::step` does it, and the lines of its block are put, and nothing else (`put_step`:
+//!   `does`, `text`); where it is refused nothing is put (`refused`, `nothing`)
+//! - The words of a step, of a mail and of a record are exactly the defined ones (`put_step_text`, `put_mail`,
+//!   `put_record`)
+//! - The report of a run is in its trace (`traces_tell_reports`)
+//!
+//! Nothing of it is kept between two steps: before a step the ends of lists are taken, and what is seen of the one actor
+//! that acts; behind it what differs is put. No command prints a trace yet, and below a denial no line says why; these
+//! lines are those of `tp_why`.
+#![tactic(auto)]
+
+mod blocks;
+mod bodies;
+mod lines;
+mod phases;
+mod records;
+mod seen;
+mod steps;
+mod told;
+mod why;
+mod words;
+
+pub use blocks::{Noted, put_step};
+pub use bodies::put_mail;
+pub use lines::Kind;
+pub use records::put_record;
+pub use seen::Seen;
+pub use steps::put_step_text;
+pub use told::traces_tell_reports;
