@@ -15,6 +15,7 @@
 //! |---|---|
 //! | `locks` | a request for a lock; the release of an owner's locks |
 //! | `credentials` | whether a credential is valid; the evaluation of a policy; the check of a certificate |
+//! | `denials` | the atoms by which a history shows a denial; the check of them |
 //! | `rounds` | the judgement of a round |
 //! | `schemes` | what a transaction does next; what a reading of the master finds newer |
 //! | `recovery` | what a server has of its log; what a coordinator has decided |
@@ -25,6 +26,7 @@
 #![tactic(auto)]
 
 mod credentials;
+mod denials;
 mod devices;
 mod locks;
 mod recovery;
@@ -37,6 +39,7 @@ mod values;
 pub use credentials::{
     certify_policy, check_certificate, evaluate_policy, is_valid_among, is_valid_in_store,
 };
+pub use denials::{check_denial, find_denial};
 pub use devices::{sync_disk, write_text};
 pub use locks::{release_locks, request_lock};
 pub use recovery::{recover_decision, recover_server};

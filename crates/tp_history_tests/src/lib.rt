@@ -1,5 +1,5 @@
-//! Histories made by hand, and what the judge of histories says of each: which of its facts is the first that breaks agreement,
-//! trust, causes or serial data, as it was worked out by hand.
+//! Histories made by hand, and what the judge of histories says of each: which of its facts is the first that breaks
+//! agreement, trust, causes or serial data, as it was worked out by hand; and the lines that stand below decisions.
 #![tactic(auto)]
 
 #[cfg(test)]
@@ -38,3 +38,5 @@ mod verdict;
 mod versions;
 #[cfg(test)]
 mod whole;
+#[cfg(test)]
+mod why;

@@ -25,9 +25,21 @@ pub fn print(
     let mut out = Vec::new(alloc);
     put(&mut out, b"tpvc 1\n")?;
     put_facts(&mut out, scenario, facts)?;
-    put_servers(&mut out, scenario, ending)?;
-    put_quiet(&mut out, ending)?;
+    put_ending(&mut out, scenario, ending)?;
     Ok(Text(List::from_vec(out)))
+}
+
+/// Puts the last lines of a report: the value of each item, and how many steps and mails there were.
+#[tactic(auto, using(crate::proofs::TokenLemmas::text_append))]
+pub fn put_ending(out: &mut Vec<u8>, scenario: &Scenario, ending: &Ending) -> Result<(), NoMemory>
+    ensures { OnOk result
+        (out.new.items
+        ≡ out.old.items
+        ++ text_of (flat_map (server_tokens scenario.now ending.now) scenario.now.servers
+        ++ quiet_tokens ending.now)) }
+{
+    put_servers(out, scenario, ending)?;
+    put_quiet(out, ending)
 }
 
 #[tactic(auto, using(crate::proofs::TokenLemmas::text_append))]

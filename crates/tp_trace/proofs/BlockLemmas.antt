@@ -1,21 +1,19 @@
 -- What the code finds by what it noted before a step are the lines of its block.
-use Rattle.std.proofs.Common.{◌≡◌, ◌∙◌, ℕ, ℤ, ◌+◌, ◌-◌, List, [], ◌∷◌, ◌++◌, length, take, drop, map, Option, Some, None, slice_get, refl, sym, ap, subst, Bool, true, false, if◌then◌else◌, arith}
+use Rattle.std.proofs.Common.{◌≡◌, ◌∙◌, ℕ, ℤ, ◌+◌, ◌-◌, List, [], ◌∷◌, ◌++◌, length, take, drop, map, Option, Some, None, slice_get, refl, sym, ap, subst, Bool, if◌then◌else◌, arith}
 use Rattle.std.proofs.lemmas.Bool.Decides.{Decides-int_eq}
 use Rattle.std.proofs.lemmas.List.{append-nil, append_assoc, drop_at, length-append, take-append-le, take_all}
-use Rattle.std.specs.Ordering.{int_eq}
 use Rattle.std.specs.Prelude.{is_some}
 use Rattle.tp_log.specs.Images.{blocks}
 use Rattle.tp_machine.specs.Logs.{records_of}
 use Rattle.tp_machine.specs.Machine.{Machine, State, after_step, machine_after, refusal}
 use Rattle.tp_machine.specs.Views.{StandsAt, cut_off, server_at}
-use Rattle.tp_machine.specs.declared.actors.Actors.{Actors}
 use Rattle.tp_machine.specs.declared.error.StepError.{StepError}
 use Rattle.tp_model.specs.Words.{Actor, ItemId, Record, Scenario, ServerId, Step}
 use Rattle.tp_model.specs.Words.actor
 use Rattle.tp_server.specs.State.{Server}
-use Rattle.tp_trace.specs.Blocks.{acting, block, durable_lines, fate_lines, gained, lines_between, log_lines, mail_at, now_lines, server_now, state_lines, step_kind}
+use Rattle.tp_trace.specs.Blocks.{acting, block, durable_lines, fate_lines, gained, lines_between, mail_at, now_lines, server_now, state_lines, step_kind}
 use Rattle.tp_trace.specs.Lines.{Line, line_of, lines_text, mail_line}
-use Rattle.tp_trace.specs.Seen.{changed_lines, item_line, items_of, left_lines, seen_up, value_if, value_in, values_from, values_left}
+use Rattle.tp_trace.specs.Seen.{changed_lines, item_line, items_of, left_lines, seen_up, value_if, values_from, values_left}
 use Rattle.tp_trace.specs.Steps.{step_text}
 use Rattle.tp_trace.specs.Told.{all_told}
 use Rattle.tp_trace.specs.declared.blocks.Noted.{Noted}

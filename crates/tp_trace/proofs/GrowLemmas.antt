@@ -1,13 +1,13 @@
 -- The log of the actor that acts grows by what it forces.
-use Rattle.std.proofs.Common.{◌≡◌, ◌∙◌, ℕ, List, [], ◌∷◌, ◌++◌, length, Option, Some, None, option_map, slice_get, slice_set, refl, sym, ap, subst, Bool, true, false, if◌then◌else◌}
+use Rattle.std.proofs.Common.{◌≡◌, ◌∙◌, ℕ, List, [], ◌∷◌, ◌++◌, length, Option, Some, None, option_map, slice_get, slice_set, refl, sym, ap, subst}
 use Rattle.std.proofs.lemmas.List.{append-nil}
 use Rattle.std.proofs.lemmas.Option.{slice_get_within}
 use Rattle.std.specs.Option.{option_map_or}
-use Rattle.std.specs.Prelude.{unwrap_or, is_some}
+use Rattle.std.specs.Prelude.{unwrap_or}
 use Rattle.tp_coord.specs.Booted as coordinator_boot
 use Rattle.tp_coord.specs.State.{Coordinator}
 use Rattle.tp_machine.specs.Logs.{log_by, records_of}
-use Rattle.tp_machine.specs.Machine.{Machine, State, boot_of_coordinator, boot_of_server, boots, coordinator_boots, coordinator_crashes, coordinator_submits, coordinator_submits_up, coordinator_takes, coordinator_takes_up, crash_of_coordinator, crash_of_server, crashes, delivery, log_with, machine_after, receipt, server_boots, server_crashes, server_takes, server_takes_up, submission, submission_by, to_coordinator, to_server}
+use Rattle.tp_machine.specs.Machine.{Machine, boot_of_coordinator, boot_of_server, boots, coordinator_boots, coordinator_crashes, coordinator_submits, coordinator_submits_up, coordinator_takes, coordinator_takes_up, crash_of_coordinator, crash_of_server, crashes, delivery, log_with, machine_after, receipt, server_boots, server_crashes, server_takes, server_takes_up, submission, submission_by, to_coordinator, to_server}
 use Rattle.tp_machine.specs.Parts.{Part}
 use Rattle.tp_machine.specs.declared.actors.Actors.{Actors}
 use Rattle.tp_model.specs.Words.{Actor, Cut, Mail, Record, Scenario, ServerId, Step, TxnId}

@@ -1,34 +1,35 @@
 -- What a report has of the lines of a trace: of those of facts just what it has of the facts, and nothing of the others.
-use Rattle.std.proofs.Common.{◌≡◌, ◌∙◌, ℕ, ℤ, ◌+◌, List, [], ◌∷◌, ◌++◌, map, drop, length, refl, sym, ap, subst, codes, decimal, Bool, true, false, Option, Some, None, if◌then◌else◌, slice_get, nat_lt, is_some}
-use Rattle.std.proofs.lemmas.List.{append-nil, append_assoc, drop_at, drop-drop}
+use Rattle.std.proofs.Common.{◌≡◌, ◌∙◌, ℕ, ℤ, ◌+◌, List, [], ◌∷◌, ◌++◌, map, drop, length, refl, sym, ap, codes, decimal, Bool, true, false, Option, Some, None, if◌then◌else◌, slice_get, nat_lt, is_some}
+use Rattle.std.proofs.lemmas.List.{append-nil, append_assoc, drop_at}
 use Rattle.std.proofs.lemmas.Grind.{flat_map-append}
 use Rattle.std.proofs.Math.Seq.{drop-length}
 use Rattle.std.specs.List.{flat_map, list_any}
 use Rattle.std.specs.Option.{option_map_or}
 use Rattle.std.specs.Ordering.{int_eq}
-use Rattle.tp_coord.specs.State.{Coordinator}
 use Rattle.tp_lock.specs.declared.entry.LockEntry.{LockEntry}
 use Rattle.tp_machine.specs.Machine.{Machine, State, after, after_step, after_steps, ending_of, is_down, machine_after, opening, refusal}
-use Rattle.tp_machine.specs.Views.{coordinator_at, cut_off, server_at}
+use Rattle.tp_machine.specs.Views.{cut_off, server_at}
 use Rattle.tp_machine.specs.Logs.{records_of}
-use Rattle.tp_model.specs.Ids.{same_name, same_version}
-use Rattle.tp_model.specs.Words.{Actor, CommitRecord, Deed, Fact, Instance, ItemId, Mail, Record, Scenario, ServerId, Step, TxnId, Verdict, Version, What}
+use Rattle.tp_model.specs.Ids.{same_version}
+use Rattle.tp_model.specs.Words.{Actor, CommitRecord, Deed, Fact, Instance, ItemId, Mail, Record, Scenario, ServerId, Step, Verdict, Version, What}
 use Rattle.tp_model.specs.Words.actor
 use Rattle.tp_model.specs.Words.decision
 use Rattle.tp_model.specs.Words.step
 use Rattle.tp_model.specs.Words.what
 use Rattle.tp_report.proofs.TokenLemmas.{text_append}
-use Rattle.tp_report.specs.ReportText.{below, commit_line, deed_line, deed_tokens, fact_tokens, instance_line, instance_tokens, instances_tokens, proof_line, proof_tokens, quiet_tokens, report_text, server_tokens, what_line, what_tokens}
-use Rattle.tp_report.specs.Tokens.{Token, text_of}
+use Rattle.tp_report.specs.ReportText.{below, commit_line, deed_line, deed_tokens, fact_tokens, instance_line, instance_tokens, instances_tokens, proof_line, proof_tokens, quiet_tokens, server_tokens, what_line, what_tokens}
+use Rattle.tp_report.specs.Tokens.{text_of}
 use Rattle.tp_server.specs.State.{Server}
-use Rattle.tp_trace.specs.Blocks.{acting, block, blocks, coordinator_now, durable_lines, fate, fate_lines, gained, lines_between, log_lines, mail_at, now_lines, server_now, state_lines, taken_or_gone, torn_lines, trace_lines}
+use Rattle.tp_trace.specs.Blocks.{acting, block, blocks, durable_lines, fate, fate_lines, gained, lines_between, mail_at, now_lines, server_now, state_lines, taken_or_gone, torn_lines}
 use Rattle.tp_trace.specs.Laws.{TracesTellReports, told_by, told_of}
-use Rattle.tp_trace.specs.Lines.{Line, mail_line, record_line}
-use Rattle.tp_trace.specs.Seen.{changed_lines, free_if, free_line, frees_from, is_entry, is_of_entry, item_line, items_of, knows_from, knows_if, knows_line, left_lines, list_in, lock_if, lock_line, locks_from, seen_lines, seen_of, seen_up, value_if, values_from, values_left}
+use Rattle.tp_trace.specs.Lines.{Line, line_of, mail_line, record_line}
+use Rattle.tp_trace.specs.Seen.{changed_lines, free_if, free_line, frees_from, is_entry, is_of_entry, item_line, items_of, knows_from, knows_if, knows_line, list_in, lock_if, lock_line, locks_from, seen_lines, seen_of, seen_up, value_if, values_from, values_left}
 use Rattle.tp_trace.specs.Told.{all_told, because_lines, commit_because, deed_because, instance_because, instances_because, proof_because, told_lines}
-use Rattle.tp_trace.specs.declared.lines.Kind.{Kind}
+use Rattle.tp_trace.specs.Why.{why_lines}
 use Rattle.tp_trace.specs.declared.lines.Kind.TheVariants as kind
 use Rattle.tp_trace.specs.declared.seen.Seen.{Seen}
+use Rattle.tp_why.specs.Behind.{behind_lines}
+use Rattle.tp_why.specs.Why as why
 
 -- what a report has of lines
 abbrev pub told : List Line → List ℕ
@@ -36,6 +37,32 @@ told lines = flat_map told_of lines
 
 pub told_append : (front others : List Line) → told (front ++ others) ≡ told front ++ told others
 told_append front others = flat_map-append told_of front others
+
+-- ---- lines of which a report has nothing
+
+abbrev IsSilent : List Line → Type 0
+IsSilent lines = told lines ≡ []
+
+both_silent : (front others : List Line) → IsSilent front → IsSilent others → IsSilent (front ++ others)
+both_silent front others a b = told_append front others ∙ (ap (λ (t : List ℕ). t ++ told others) a ∙ b)
+
+map_silent : {A : Type 0} (f : A → Line) (xs : List A) → ((x : A) → told_of (f x) ≡ []) → IsSilent (map f xs)
+map_silent f [] h = refl
+map_silent f (x ∷ xs) h = ap (λ (t : List ℕ). t ++ told (map f xs)) (h x) ∙ map_silent f xs h
+
+flat_silent : {A : Type 0} (f : A → List Line) (xs : List A) → ((x : A) → IsSilent (f x)) → IsSilent (flat_map f xs)
+flat_silent f [] h = refl
+flat_silent f (x ∷ xs) h = both_silent (f x) (flat_map f xs) (h x) (flat_silent f xs h)
+
+if_silent : (b : Bool) (line : Line) → told_of line ≡ [] → IsSilent (if b then [] else line ∷ [])
+if_silent true line h = refl
+if_silent false line h = ap (λ (t : List ℕ). t ++ []) h
+
+front_told : (front others : List Line) (text : List ℕ) → told front ≡ text → IsSilent others → told (front ++ others) ≡ text
+front_told front others text a b = told_append front others ∙ (ap (λ (t : List ℕ). t ++ told others) a ∙ (ap (λ (t : List ℕ). text ++ t) b ∙ append-nil text))
+
+behind_told : (front others : List Line) (text : List ℕ) → IsSilent front → told others ≡ text → told (front ++ others) ≡ text
+behind_told front others text a b = told_append front others ∙ (ap (λ (t : List ℕ). t ++ told others) a ∙ b)
 
 -- ---- the lines of a fact
 
@@ -87,9 +114,16 @@ what_told sc place (what.Decided txn (decision.Commit held)) =
 what_told sc place (what.Decided txn (decision.Abort cause)) = append-nil _
 what_told sc place (what.Settled at txn outcome) = append-nil _
 
+-- why an abort came, and which versions a commit was behind
+why_silent : (sc : Scenario) (facts : List Fact) (fact : Fact) → IsSilent (why_lines sc facts fact)
+why_silent sc facts fact =
+    both_silent (map (line_of fact.place kind.Why) (why.why_lines sc facts fact)) (map (line_of fact.place kind.Behind) (behind_lines sc facts fact))
+    (map_silent (line_of fact.place kind.Why) (why.why_lines sc facts fact) (λ words. refl)) (map_silent (line_of fact.place kind.Behind) (behind_lines sc facts fact) (λ words. refl))
+
 fact_told : (sc : Scenario) (facts : List Fact) (fact : Fact) → told (told_lines sc facts fact) ≡ text_of (fact_tokens sc fact)
 fact_told sc facts fact =
-    ap (λ (lines : List Line). (decimal fact.place ++ codes " " ++ text_of (what_line sc fact.what)) ++ told lines) (append-nil (because_lines sc fact.place fact.what))
+    ap (λ (t : List ℕ). (decimal fact.place ++ codes " " ++ text_of (what_line sc fact.what)) ++ t)
+    (front_told (because_lines sc fact.place fact.what) (why_lines sc facts fact) (told (because_lines sc fact.place fact.what)) refl (why_silent sc facts fact))
     ∙ append_assoc (decimal fact.place ++ codes " ") (text_of (what_line sc fact.what)) (told (because_lines sc fact.place fact.what))
     ∙ ap (λ (t : List ℕ). (decimal fact.place ++ codes " ") ++ t) (what_told sc fact.place fact.what)
 
@@ -102,25 +136,6 @@ facts_told sc facts (fact ∷ news) =
     ∙ sym (text_append (fact_tokens sc fact) (flat_map (fact_tokens sc) news))
 
 -- ---- other lines
-
--- a report has nothing of them
-abbrev IsSilent : List Line → Type 0
-IsSilent lines = told lines ≡ []
-
-both_silent : (front others : List Line) → IsSilent front → IsSilent others → IsSilent (front ++ others)
-both_silent front others a b = told_append front others ∙ (ap (λ (t : List ℕ). t ++ told others) a ∙ b)
-
-map_silent : {A : Type 0} (f : A → Line) (xs : List A) → ((x : A) → told_of (f x) ≡ []) → IsSilent (map f xs)
-map_silent f [] h = refl
-map_silent f (x ∷ xs) h = ap (λ (t : List ℕ). t ++ told (map f xs)) (h x) ∙ map_silent f xs h
-
-flat_silent : {A : Type 0} (f : A → List Line) (xs : List A) → ((x : A) → IsSilent (f x)) → IsSilent (flat_map f xs)
-flat_silent f [] h = refl
-flat_silent f (x ∷ xs) h = both_silent (f x) (flat_map f xs) (h x) (flat_silent f xs h)
-
-if_silent : (b : Bool) (line : Line) → told_of line ≡ [] → IsSilent (if b then [] else line ∷ [])
-if_silent true line h = refl
-if_silent false line h = ap (λ (t : List ℕ). t ++ []) h
 
 fate_silent : (w : State) (taken : Step) (mail : Mail) (line : Line) → told_by (fate w taken mail) line ≡ []
 fate_silent w (step.Submit txn) mail line = refl
@@ -238,12 +253,6 @@ now_silent sc w next (Some actor.Master) = refl
 now_silent sc w next (Some actor.Authority) = refl
 
 -- ---- a block
-
-front_told : (front others : List Line) (text : List ℕ) → told front ≡ text → IsSilent others → told (front ++ others) ≡ text
-front_told front others text a b = told_append front others ∙ (ap (λ (t : List ℕ). t ++ told others) a ∙ (ap (λ (t : List ℕ). text ++ t) b ∙ append-nil text))
-
-behind_told : (front others : List Line) (text : List ℕ) → IsSilent front → told others ≡ text → told (front ++ others) ≡ text
-behind_told front others text a b = told_append front others ∙ (ap (λ (t : List ℕ). t ++ told others) a ∙ b)
 
 between_told : (sc : Scenario) (w : State) (taken : Step) (next : State) → told (lines_between sc w taken next) ≡ text_of (flat_map (fact_tokens sc) (drop (length w.facts) next.facts))
 between_told sc w taken next =

@@ -1,7 +1,7 @@
 -- What a mail says: its kind, and then each value behind its key. Where there is no value its word is left out.
 use Rattle.std.specs.Prelude.{ℕ, List, [], ◌++◌, Option, Some, None, codes, decimal, length, option_map}
 use Rattle.std.specs.Fmt.{signed_decimal}
-use Rattle.tp_model.specs.Words.{Answer, Body, DoneReply, Mail, NewestReply, Newer, PrepareRequest, PushNotice, QueryRequest, Scenario, TellReply, ValidateRequest, Verdict, VerdictsReply, Version, Vote, VoteReply}
+use Rattle.tp_model.specs.Words.{Answer, Body, DoneReply, Mail, NewestReply, PrepareRequest, QueryRequest, Scenario, TellReply, ValidateRequest, Verdict, VerdictsReply, Version, Vote, VoteReply}
 use Rattle.tp_model.specs.Words.answer
 use Rattle.tp_model.specs.Words.body
 use Rattle.tp_model.specs.Words.vote

@@ -1,5 +1,5 @@
 -- Lines of a trace, each with a place, a kind, and what it says.
-use Rattle.std.specs.Prelude.{ℕ, List, ◌++◌, Bool, true, false, codes, decimal}
+use Rattle.std.specs.Prelude.{ℕ, List, ◌++◌, codes, decimal}
 use Rattle.std.specs.List.{flat_map}
 use Rattle.tp_model.specs.Words.{Actor, Mail, Record, Scenario}
 use Rattle.tp_report.specs.Tokens.{Token, text_of}

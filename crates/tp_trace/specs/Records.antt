@@ -1,6 +1,6 @@
 -- What a record of a log says: its kind, and then each value behind its key.
 use Rattle.std.specs.Prelude.{ℕ, List, [], ◌++◌, Option, Some, None, codes, decimal}
-use Rattle.tp_model.specs.Words.{Cause, Decided, Decision, No, Prepared, Record, Scenario, Settled, Told}
+use Rattle.tp_model.specs.Words.{Cause, Decided, Decision, No, Prepared, Record, Scenario, Settled}
 use Rattle.tp_model.specs.Words.cause
 use Rattle.tp_model.specs.Words.decision
 use Rattle.tp_model.specs.Words.log

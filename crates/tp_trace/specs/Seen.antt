@@ -9,12 +9,11 @@ use Rattle.tp_lock.specs.Table.{Table}
 use Rattle.tp_lock.specs.declared.entry.LockEntry.{LockEntry}
 use Rattle.tp_model.specs.Ids.{same_txn, same_version}
 use Rattle.tp_model.specs.Policies.{same_action}
-use Rattle.tp_model.specs.Words.{AdminId, ItemId, Record, Scenario, ServerDecl, ServerId, Version}
+use Rattle.tp_model.specs.Words.{ItemId, Record, Scenario, ServerDecl, ServerId, Version}
 use Rattle.tp_recover.specs.Kept.{kept}
 use Rattle.tp_report.specs.ReportText.{action_word, admin_name, item_name, server_name, txn_name}
 use Rattle.tp_server.specs.State.{Server}
 use Rattle.tp_trace.specs.Lines.{Line, line_of}
-use Rattle.tp_trace.specs.declared.lines.Kind.{Kind}
 use Rattle.tp_trace.specs.declared.lines.Kind.TheVariants as kind
 use Rattle.tp_trace.specs.declared.seen.Seen.{Seen}
 

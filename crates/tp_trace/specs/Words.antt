@@ -1,8 +1,7 @@
 -- Words that lines of several kinds share.
-use Rattle.std.specs.Prelude.{ℕ, ◌+◌, List, [], ◌∷◌, ◌++◌, Option, Some, None, codes, decimal, length, slice_get}
+use Rattle.std.specs.Prelude.{ℕ, ◌+◌, List, [], ◌∷◌, ◌++◌, Option, Some, None, codes, decimal, length}
 use Rattle.std.specs.Fmt.{signed_decimal}
 use Rattle.std.specs.List.{flat_map}
-use Rattle.std.specs.Option.{option_map_or}
 use Rattle.tp_model.specs.Words.{Actor, AdminId, Deed, No, Scenario, Staple, Verdict, Version}
 use Rattle.tp_model.specs.Words.actor
 use Rattle.tp_model.specs.Words.no

@@ -483,7 +483,7 @@ fn put_lines(
     let news = behind(facts.as_slice(), noted.facts);
     let sent = behind(world.sent().as_slice(), noted.mails);
     put_durable(out, scenario, noted, more, forced)?;
-    put_all_told(out, scenario, facts, news)?;
+    put_all_told(out, alloc, scenario, facts, news)?;
     put_state(out, alloc, world, noted, more)?;
     put_mail_lines(out, scenario, noted.place, Kind::Sent, sent)?;
     put_now(out, alloc, world, noted)

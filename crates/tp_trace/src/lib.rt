@@ -1,4 +1,4 @@
-//! The trace of a run: each step with what arrived, what was forced, what became a fact, what changed, and what was sent.
+//! The trace: a run step by step, with what each step brought, forced, made known, changed and sent.
 //!
 //! What is promised, with the contract that carries it:
 //!
@@ -6,11 +6,12 @@
 //!   `does`, `text`); where it is refused nothing is put (`refused`, `nothing`)
 //! - The words of a step, of a mail and of a record are exactly the defined ones (`put_step_text`, `put_mail`,
 //!   `put_record`)
-//! - The report of a run is in its trace (`traces_tell_reports`)
+//! - The trace of steps that are allowed is the first line and the blocks of these steps, in order (`trace`)
+//! - The report of a run is in its trace: in the lines of its steps, and the last lines (`traces_tell_reports`)
 //!
-//! Nothing of it is kept between two steps: before a step the ends of lists are taken, and what is seen of the one actor
-//! that acts; behind it what differs is put. No command prints a trace yet, and below a denial no line says why; these
-//! lines are those of `tp_why`.
+//! Nothing of it is kept between two steps: before a step the ends of lists are taken, and what is seen of the one
+//! actor that acts; behind it what differs is put. What stands below a fact and is not in a report is of `tp_why`, and
+//! the last lines of a run are those of its report (`tp_report::put_ending`).
 #![tactic(auto)]
 
 mod blocks;
@@ -18,6 +19,7 @@ mod bodies;
 mod lines;
 mod phases;
 mod records;
+mod runs;
 mod seen;
 mod steps;
 mod told;
@@ -28,6 +30,7 @@ pub use blocks::{Noted, put_step};
 pub use bodies::put_mail;
 pub use lines::Kind;
 pub use records::put_record;
+pub use runs::trace;
 pub use seen::Seen;
 pub use steps::put_step_text;
 pub use told::traces_tell_reports;

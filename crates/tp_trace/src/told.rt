@@ -6,6 +6,7 @@ ghost use Rattle.tp_trace.specs.Told as told;
 
 use crate::lines::{Kind, put_front};
 use crate::why::put_why;
+use std::alloc::Global;
 use tp_report::{put_deed_line, put_instance_line, put_proof_line, put_what_line};
 use tp_types::{
     CommitRecord, Decision, Deed, Fact, Instance, List, NoMemory, Place, Scenario, Verdict, What,
@@ -15,6 +16,7 @@ use tp_types::{
 #[tactic(auto, using(crate::proofs::LineLemmas::lines_append))]
 pub(crate) fn put_all_told(
     out: &mut Vec<u8>,
+    alloc: Global,
     scenario: &Scenario,
     facts: &List<Fact>,
     news: &[Fact],
@@ -24,7 +26,7 @@ pub(crate) fn put_all_told(
         ≡ out.old.items ++ lines_text (told.all_told scenario.now facts.now news.now)) }
 {
     for fact in news {
-        put_told(out, scenario, facts, fact)?;
+        put_told(out, alloc, scenario, facts, fact)?;
     }
     Ok(())
 }
@@ -32,6 +34,7 @@ pub(crate) fn put_all_told(
 #[tactic(auto, using(crate::proofs::LineLemmas::lines_append))]
 fn put_told(
     out: &mut Vec<u8>,
+    alloc: Global,
     scenario: &Scenario,
     facts: &List<Fact>,
     fact: &Fact,
@@ -43,7 +46,7 @@ fn put_told(
     put_front(out, fact.place, Kind::Fact)?;
     put_what_line(out, scenario, &fact.what)?;
     put_because(out, scenario, fact.place, &fact.what)?;
-    put_why(out, scenario, facts, fact)
+    put_why(out, alloc, scenario, facts, fact)
 }
 
 /// Puts what a commit rests on.

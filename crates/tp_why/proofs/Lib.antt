@@ -1,3 +1,4 @@
+pub mod AbsentLemmas
 pub mod BehindLemmas
 pub mod CutLemmas
 pub mod DenialLemmas
@@ -6,4 +7,5 @@ pub mod NearestLemmas
 pub mod OpenLemmas
 pub mod RefutedLemmas
 pub mod SaidLemmas
+pub mod ToldLemmas
 pub mod WhyLemmas

@@ -21,7 +21,7 @@ use Rattle.tp_model.specs.Policies.{Triple, allows, holds, matches, meets, rule_
 use Rattle.tp_model.proofs.ConditionLemmas.{holds_and, holds_atom, holds_or}
 use Rattle.tp_why.specs.declared.atoms.FalseAtom.{FalseAtom}
 use Rattle.tp_why.specs.declared.atoms.Atom as atoms
-use Rattle.tp_why.specs.Refutation.{all_cuts, are_refuted, atoms_from, cut, cut_atom, first_cut, is_entry, is_false_entry, is_false_under, is_listed, is_open, is_refuted, is_rule_refuted, is_true, level, numbered, open_level, refutation, rule_atoms, same_atom, same_op, under}
+use Rattle.tp_why.specs.Refutation.{all_cuts, each_rule, atoms_from, cut, cut_atom, first_cut, is_entry, is_false_entry, is_false_under, is_listed, is_open, is_refuted, is_rule_refuted, is_true, level, numbered, open_level, refutation, rule_atoms, same_atom, same_op, under}
 use Rattle.tp_why.proofs.CutLemmas.{and_others, cut_of_and, cut_of_atom, cut_of_or}
 use Rattle.tp_why.proofs.OpenLemmas.{open_and, open_atom, open_or}
 
@@ -175,10 +175,10 @@ rule_sound asked item held entries number rule e =
     (λ all. monotonic held (is_listed entries number) (listed_false held number entries all) rule.cond) e
 
 rules_sound : (asked : Action) (item : List ℕ) (held : List Triple) (entries : List FalseAtom) (number : ℕ) (rules : List Rule)
-    → are_refuted (is_rule_refuted asked item held entries) number rules ≡ true → list_any (rule_allows asked item held) rules ≡ false
+    → each_rule (is_rule_refuted asked item held entries) number rules ≡ true → list_any (rule_allows asked item held) rules ≡ false
 rules_sound asked item held entries number [] e = refl
 rules_sound asked item held entries number (rule ∷ rules) e =
-    let parts = and_parts (is_rule_refuted asked item held entries number rule) (are_refuted (is_rule_refuted asked item held entries) (number + 1) rules) e in
+    let parts = and_parts (is_rule_refuted asked item held entries number rule) (each_rule (is_rule_refuted asked item held entries) (number + 1) rules) e in
     rw (rule_sound asked item held entries number rule parts.0, rules_sound asked item held entries (number + 1) rules parts.1) refl
 
 -- what is refuted is not allowed
@@ -197,7 +197,7 @@ pub record IsCut (held : List Triple) (truth : Bool) (opens : (atoms.Atom → Bo
   pub all_false : list_all (is_false held) cuts ≡ true
   pub enough : (listed : atoms.Atom → Bool) → list_all listed cuts ≡ true → opens listed ≡ false
 
-abbrev Cuts : List Triple → Bool → ((atoms.Atom → Bool) → Bool) → Option (List atoms.Atom) → Type 0
+abbrev pub Cuts : List Triple → Bool → ((atoms.Atom → Bool) → Bool) → Option (List atoms.Atom) → Type 0
 Cuts held truth opens None = truth ≡ true
 Cuts held truth opens (Some cuts) = IsCut held truth opens cuts
 
@@ -241,7 +241,7 @@ or_cuts held first others first_opens others_opens (Some cuts) (Some later) one 
       rw (one.enough listed both.0, rest.enough listed both.1) refl;
 }
 
-abbrev IsCutBy : List Triple → Cond → Type 0
+abbrev pub IsCutBy : List Triple → Cond → Type 0
 IsCutBy held condition = Cuts held (holds held condition) (λ listed. is_open listed condition) (cut held condition)
 
 alike : (held : List Triple) (one other : Bool) (one_opens other_opens : (atoms.Atom → Bool) → Bool) (found : Option (List atoms.Atom)) → other ≡ one
@@ -389,7 +389,7 @@ rule_complete asked item held number rule front back true e none all =
 
 rules_complete : (asked : Action) (item : List ℕ) (held : List Triple) (number : ℕ) (rules : List Rule) (front : List FalseAtom)
     → list_any (rule_allows asked item held) rules ≡ false → list_all (is_false_entry held) (front ++ atoms_from (rule_atoms asked item held) number rules) ≡ true
-    → are_refuted (is_rule_refuted asked item held (front ++ atoms_from (rule_atoms asked item held) number rules)) number rules ≡ true
+    → each_rule (is_rule_refuted asked item held (front ++ atoms_from (rule_atoms asked item held) number rules)) number rules ≡ true
 rules_complete asked item held number [] front none all = refl
 rules_complete asked item held number (rule ∷ rules) front none all =
     let later = atoms_from (rule_atoms asked item held) (number + 1) rules in
@@ -397,9 +397,9 @@ rules_complete asked item held number (rule ∷ rules) front none all =
     let first : rule_allows asked item held rule ≡ false = neither_of (rule_allows asked item held rule) (list_any (rule_allows asked item held) rules) none in
     let others : list_any (rule_allows asked item held) rules ≡ false = second_of (rule_allows asked item held rule) (list_any (rule_allows asked item held) rules) none in
     let same : (front ++ here) ++ later ≡ front ++ (here ++ later) = append_assoc front here later in
-    and_from (is_rule_refuted asked item held (front ++ (here ++ later)) number rule) (are_refuted (is_rule_refuted asked item held (front ++ (here ++ later))) (number + 1) rules)
+    and_from (is_rule_refuted asked item held (front ++ (here ++ later)) number rule) (each_rule (is_rule_refuted asked item held (front ++ (here ++ later))) (number + 1) rules)
     (rule_complete asked item held number rule front later (matches asked item rule) refl first all)
-    (subst (λ entries. are_refuted (is_rule_refuted asked item held entries) (number + 1) rules ≡ true) same
+    (subst (λ entries. each_rule (is_rule_refuted asked item held entries) (number + 1) rules ≡ true) same
     (rules_complete asked item held (number + 1) rules (front ++ here) others (ap (list_all (is_false_entry held)) same ∙ all)))
   where
     neither_of : (a b : Bool) → (a || b) ≡ false → a ≡ false

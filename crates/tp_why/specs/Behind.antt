@@ -1,4 +1,5 @@
--- Which versions a commit was behind: of administrators of its last instance of which a newer version had been published before it.
+-- Which versions a commit was behind: of administrators of its last instance of which a newer version had been
+-- published before it.
 use Rattle.std.specs.Prelude.{ℕ, ◌+◌, ◌-◌, ◌==◌, nat_lt, List, [], ◌∷◌, ◌++◌, Bool, Option, option_map, length, slice_get, if◌then◌else◌}
 use Rattle.std.specs.List.{find}
 use Rattle.std.specs.Option.{option_map_or}

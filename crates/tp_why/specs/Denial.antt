@@ -1,4 +1,5 @@
--- What shows a denial of a history: atoms that refute the version of the policy, on what the transaction holds at the place.
+-- What shows a denial of a history: atoms that refute the version of the policy, on what the transaction holds at the
+-- place.
 use Rattle.std.specs.Prelude.{ℕ, List, [], slice_get, Bool, true, Option, option_map, option_and_then}
 use Rattle.std.specs.Option.{option_map_or}
 use Rattle.tp_model.specs.Words.{Action, Denied, Fact, Item, Policy, Query, Scenario, Transaction}
@@ -47,8 +48,8 @@ abbrev pub is_refuted_at : Scenario → ℕ → List Fact → Transaction → Li
 is_refuted_at sc place facts declared atoms asked =
     is_refuted asked.policy asked.action asked.item (holdings sc place facts declared) atoms
 
--- atoms show it that refute the policy. Where the query, its item or the version does not exist, nothing is allowed whatever is held,
--- and nothing has to be shown
+-- atoms show it that refute the policy. Where the query, its item or the version does not exist, nothing is allowed
+-- whatever is held, and nothing has to be shown
 abbrev pub is_shown : Scenario → List Fact → Transaction → Denied → List FalseAtom → Bool
 is_shown sc facts declared denied atoms =
     option_map_or (is_refuted_at sc denied.place facts declared atoms) (asked_of sc declared denied)

@@ -1,6 +1,7 @@
 pub mod Behind
 pub mod Denial
 pub mod Held
+pub mod Laws
 pub mod Lines
 pub mod Nearest
 pub mod Refutation

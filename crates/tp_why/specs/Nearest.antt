@@ -62,7 +62,8 @@ abbrev pub nearest_by : (CredId → Option Failing) → List CredId → Option F
 nearest_by failing_by [] = None
 nearest_by failing_by (cred ∷ creds) = nearer (failing_by cred) (nearest_by failing_by creds)
 
--- of the presented credentials of the atom's issuer and attribute the one that passes the most tests, the first of several
+-- of the presented credentials of the atom's issuer and attribute the one that passes the most tests, the first of
+-- several
 abbrev pub nearest : Scenario → ℕ → List Fact → Transaction → Atom → Option Failing
 nearest sc place facts declared atom =
     nearest_by (failing sc place facts declared atom) declared.creds

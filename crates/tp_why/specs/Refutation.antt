@@ -1,5 +1,6 @@
--- What refutes a policy: of each rule that is about an action on an item, atoms of its condition that are false, and enough for the
--- condition to be false. `Policies` of `tp_model` says when a condition is true, and what a policy allows.
+-- What refutes a policy: of each rule that is about an action on an item, atoms of its condition that are false, and
+-- enough for the condition to be false. `Policies` of `tp_model` says when a condition is true, and what a policy
+-- allows.
 use Rattle.std.specs.Prelude.{ℕ, ◌+◌, ◌==◌, ◌&&◌, ◌||◌, List, [], ◌∷◌, ◌++◌, map, Bool, true, false, not, Option, Some, None, option_map, option_and_then, if◌then◌else◌}
 use Rattle.std.specs.List.{list_all, list_any}
 use Rattle.std.specs.Option.{option_or}
@@ -55,8 +56,8 @@ level held (IsAtom issuer attr op wanted) =
 level held (And members) = first_cut members
 level held (Or members) = all_cuts members
 
--- atoms of a condition that are false and enough for it to be false, or None where it is true: of an atom itself, of And those of
--- the first member that is false, of Or those of all members
+-- atoms of a condition that are false and enough for it to be false, or None where it is true: of an atom itself, of
+-- And those of the first member that is false, of Or those of all members
 abbrev pub cut : List Triple → Cond → Option (List Atom)
 cut held condition = fold-Cond (Option (List Atom)) (level held) condition
 
@@ -84,6 +85,27 @@ atoms_from of_rule number (rule ∷ rules) =
 -- of each rule that is about the action on the item the cut of its condition, where rules are counted from 1
 abbrev pub refutation : Policy → Action → List ℕ → List Triple → List FalseAtom
 refutation policy asked item held = atoms_from (rule_atoms asked item held) 1 policy.rules
+
+-- ---- each rule
+
+-- every rule passes a test by its number, the first having this one
+abbrev pub each_rule : (ℕ → Rule → Bool) → ℕ → List Rule → Bool
+each_rule of_rule number [] = true
+each_rule of_rule number (rule ∷ rules) =
+    of_rule number rule && each_rule of_rule (number + 1) rules
+
+-- the atom is of the rule of this number
+abbrev pub is_of_rule : ℕ → FalseAtom → Bool
+is_of_rule number entry = entry.rule == number
+
+-- a rule that is about the action on the item has an atom
+abbrev pub is_rule_told : Action → List ℕ → List FalseAtom → ℕ → Rule → Bool
+is_rule_told asked item atoms number rule =
+    not (matches asked item rule) || list_any (is_of_rule number) atoms
+
+-- so has every rule, where rules are counted from 1
+abbrev pub is_told : Policy → Action → List ℕ → List FalseAtom → Bool
+is_told policy asked item atoms = each_rule (is_rule_told asked item atoms) 1 policy.rules
 
 -- ---- the check
 
@@ -122,12 +144,7 @@ is_rule_refuted asked item held atoms number rule =
     || (list_all (is_false_under held number) atoms
     && not (is_open (is_listed atoms number) rule.cond))
 
-abbrev pub are_refuted : (ℕ → Rule → Bool) → ℕ → List Rule → Bool
-are_refuted of_rule number [] = true
-are_refuted of_rule number (rule ∷ rules) =
-    of_rule number rule && are_refuted of_rule (number + 1) rules
-
--- so is every rule, where rules are counted from 1
+-- every rule is refuted, where rules are counted from 1
 abbrev pub is_refuted : Policy → Action → List ℕ → List Triple → List FalseAtom → Bool
 is_refuted policy asked item held atoms =
-    are_refuted (is_rule_refuted asked item held atoms) 1 policy.rules
+    each_rule (is_rule_refuted asked item held atoms) 1 policy.rules

@@ -221,9 +221,9 @@ fn put_commit(
     }
 }
 
-/// Puts the lines below a fact that say which versions a commit was behind: of each administrator of its last instance, of
-/// which a newer version had been published before the commit, the version of its proofs and the newest. Of other facts there
-/// are none. `facts` are all up to the fact.
+/// Puts the lines below a fact that say which versions a commit was behind: of each administrator of its last instance,
+/// of which a newer version had been published before the commit, the version of its proofs and the newest. Of other
+/// facts there are none. `facts` are all up to the fact.
 pub fn put_behind_lines(
     alloc: Global,
     out: &mut Vec<u8>,

@@ -99,8 +99,9 @@ fn is_rule_refuted(
     !matches(action, item, rule) || (are_false(listed, held) && !is_open(listed, &rule.cond))
 }
 
-/// Whether atoms refute a policy, on the credentials that count: of each rule that is about the action on the item every atom
-/// that is listed for it is false, and its condition is false where every atom counts as true that is not listed.
+/// Whether atoms refute a policy, on the credentials that count: of each rule that is about the action on the item
+/// every atom that is listed for it is false, and its condition is false where every atom counts as true that is not
+/// listed.
 pub fn is_refuted(
     policy: &Policy,
     action: Action,

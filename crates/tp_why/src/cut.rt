@@ -1,9 +1,10 @@
-//! The atoms that refute a policy: of each rule that is about the action on the item, atoms that are false and enough for its
-//! condition to be false.
+//! The atoms that refute a policy: of each rule that is about the action on the item, atoms that are false and enough
+//! for its condition to be false.
 ghost use Rattle.std.specs.Prelude.{◌≡◌, ◌++◌, map, true, false, not, IfOk};
 ghost use Rattle.std.specs.List.{list_all};
 ghost use Rattle.std.specs.Option.{is_some};
 ghost use Rattle.tp_model.specs.Policies.{allows};
+ghost use Rattle.tp_policy_text.specs.Printed.{IsOfGrammar};
 ghost use Rattle.tp_why.specs.Refutation as refutation;
 ghost use Rattle.tp_why.specs.mirrors.Said.{said_by};
 
@@ -47,8 +48,8 @@ fn cut_atom(
     Ok(true)
 }
 
-/// Whether the condition is false of what is held. Where it is, atoms are added that are false and enough for that; where it
-/// is not, the list stays.
+/// Whether the condition is false of what is held. Where it is, atoms are added that are false and enough for that;
+/// where it is not, the list stays.
 #[cycle(cutting)]
 #[tactic(auto, using(crate::proofs::CutLemmas::cut_of_atom, crate::proofs::CutLemmas::cut_of_and, crate::proofs::CutLemmas::cut_of_or))]
 fn cut(
@@ -146,8 +147,8 @@ fn cut_rule(
     Ok(())
 }
 
-/// The atoms that refute a policy, on the credentials that count: of each rule that is about the action on the item those of
-/// its cut, in the order of the rules. Where the policy allows the action, some rule has none.
+/// The atoms that refute a policy, on the credentials that count: of each rule that is about the action on the item
+/// those of its cut, in the order of the rules. Where the policy allows the action, some rule has none.
 pub fn refutation_of(
     alloc: Global,
     policy: &Policy,
@@ -162,6 +163,9 @@ pub fn refutation_of(
     ensures complete { allows policy.now action item.now (said_by held.now) ≡ false
         → IfOk result (λ found.
         refutation.is_refuted policy.now action item.now (said_by held.now) found ≡ true) }
+    ensures told { IsOfGrammar policy.now
+        → allows policy.now action item.now (said_by held.now) ≡ false
+        → IfOk result (λ found. refutation.is_told policy.now action item.now found ≡ true) }
 {
     let mut found = List::new(alloc);
     for (before, rule) in policy.rules.as_slice().iter().enumerate() {

@@ -103,8 +103,8 @@ fn is_refuted_at(
     ))
 }
 
-/// The atoms by which a history shows a denial: what refutes the version of the policy on what the transaction holds at the
-/// place. Where the query, its item or the version does not exist there are none, and none are needed.
+/// The atoms by which a history shows a denial: what refutes the version of the policy on what the transaction holds at
+/// the place. Where the query, its item or the version does not exist there are none, and none are needed.
 pub fn denial_of(
     alloc: Global,
     scenario: &Scenario,
@@ -124,7 +124,8 @@ pub fn denial_of(
     }
 }
 
-/// Whether atoms show a denial of a history: they refute the version of the policy on what the transaction holds at the place.
+/// Whether atoms show a denial of a history: they refute the version of the policy on what the transaction holds at the
+/// place.
 pub fn is_denial_shown(
     alloc: Global,
     scenario: &Scenario,

@@ -1,5 +1,6 @@
 //! Of the credentials that a transaction presents the one that comes nearest to make an atom true.
 ghost use Rattle.std.specs.Prelude.{◌≡◌, ◌<◌, length};
+ghost use Rattle.tp_why.specs.Laws.{AbsentIsOfNone};
 ghost use Rattle.tp_why.specs.Nearest as nearness;
 
 use crate::atoms::Atom;
@@ -119,8 +120,8 @@ fn nearer(one: Option<Failing>, other: Option<Failing>) -> Option<Failing>
     }
 }
 
-/// Of the credentials that a transaction presents, and that are of the atom's issuer and attribute, the one that passed the
-/// most tests, with the one that it failed; the first of several.
+/// Of the credentials that a transaction presents, and that are of the atom's issuer and attribute, the one that passed
+/// the most tests, with the one that it failed; the first of several.
 pub(crate) fn nearest(moment: &Moment<'_>, declared: &Transaction, atom: &Atom) -> Option<Failing>
     ensures { result ≡ nearness.nearest moment.now.scenario.now moment.now.place
         moment.now.facts.now declared.now atom.now }
@@ -131,3 +132,9 @@ pub(crate) fn nearest(moment: &Moment<'_>, declared: &Transaction, atom: &Atom) 
     }
     best
 }
+
+/// Of an atom that is false it is told that nothing comes near only where no presented credential is from its issuer,
+/// with its attribute. Its body is empty: a law that only a definition states could stay unproved.
+pub fn absent_is_of_none()
+    ensures { AbsentIsOfNone }
+{}

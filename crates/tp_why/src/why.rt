@@ -232,8 +232,8 @@ fn put_cause(
     }
 }
 
-/// Puts the lines below a fact that say why a transaction aborted: of a denial what refutes the policy, of a value the range
-/// of its item, of a death the two submissions. Of other facts there are none. `facts` are all up to the fact.
+/// Puts the lines below a fact that say why a transaction aborted: of a denial what refutes the policy, of a value the
+/// range of its item, of a death the two submissions. Of other facts there are none. `facts` are all up to the fact.
 pub fn put_why_lines(
     alloc: Global,
     out: &mut Vec<u8>,
