@@ -72,7 +72,7 @@ never_stopped sc count refused e f =
 -- ---- the line
 
 -- what holds of a world at rest holds of the scenario's last state
-at_rest : (sc : Scenario) (world : WorldView) (P : Scenario → State → Type 0) → IsAtRest sc world → P world.scenario world.machine.state → P sc (final sc).state
+pub at_rest : (sc : Scenario) (world : WorldView) (P : Scenario → State → Type 0) → IsAtRest sc world → P world.scenario world.machine.state → P sc (final sc).state
 at_rest sc world P h p = subst (λ (s : Scenario). P s (final sc).state) h.scenario_is (subst (λ (m : Machine). P world.scenario m.state) h.now p)
 
 made_at_rest : (count : ℕ) (world : WorldView) (text : List ℕ) → IsAtRest (scenario_of count) world → text ≡ line_of count world.machine.state.facts (ending_of world.scenario world.machine.state)

@@ -5,4 +5,5 @@ pub mod ListedRun
 pub mod PrintableRun
 pub mod RunLemmas
 pub mod TopLemmas
+pub mod TracedRun
 pub mod TrustedRun

@@ -1,11 +1,12 @@
 -- Each cause in a told input has its status, and each command what it asks for.
-use Rattle.std.proofs.Common.{◌≡◌, inl, inr, ℕ, ◌+◌, ◌*◌, ◌<◌, ◌≤◌, ◌==◌, ◌&&◌, Bool, List, [], ◌++◌, length, nat_le, true, false, Option, Some, None, option_and_then, Result, Ok, Err, codes, if◌then◌else◌, refl, sym, ap, subst, ◌∙◌, arith}
+use Rattle.std.proofs.Common.{◌≡◌, ◌⊎◌, inl, inr, ℕ, ◌+◌, ◌*◌, ◌<◌, ◌≤◌, ◌==◌, ◌&&◌, Bool, List, [], ◌++◌, length, nat_le, true, false, Option, Some, None, option_and_then, Result, Ok, Err, codes, if◌then◌else◌, refl, sym, ap, subst, ◌∙◌, arith}
 use Rattle.std.proofs.lemmas.Bool.{leb-true}
 use Rattle.std.proofs.lemmas.List.{length-append, append-nil}
 use Rattle.std.proofs.lemmas.Option.{same_Some}
 use Rattle.std.specs.Cmp.Lexicographic.{pointwise}
 use Rattle.std.specs.Prelude.{IfSome}
 use Rattle.std.specs.Io.KnownBytes.{Appends, Consumes}
+use Rattle.std.specs.List.{flat_map}
 use Rattle.tp_bulk.specs.Bulk.{scenario_of}
 use Rattle.tp_model.specs.Words.{Scenario, Text}
 use Rattle.tp_scenario.proofs.ReadLemmas.{says_one}
@@ -14,20 +15,25 @@ use Rattle.tp_scenario.specs.declared.from_bytes.ScenarioError.{ScenarioError}
 use Rattle.tp_scenario.specs.declared.from_bytes.ScenarioError.TheVariants as error
 use Rattle.tp_top.specs.declared.status.Status.{Status}
 use Rattle.tp_top.specs.declared.status.Status.TheVariants.{Done, Refused, ReadFault, NoMemory}
-use Rattle.tp_machine.specs.Machine.{ending_of}
+use Rattle.tp_machine.specs.Machine.{Machine, ending_of}
+use Rattle.tp_report.specs.ReportText.{report_text}
 use Rattle.tp_top.proofs.ByThemselves.{automatic_by_themselves}
-use Rattle.tp_top.specs.Headline.{CountsTrusted, PrintsTrusted}
+use Rattle.tp_top.proofs.TrustedRun.{final_after}
+use Rattle.tp_trace.proofs.ToldLemmas.{reports_told}
+use Rattle.tp_trace.specs.Blocks.{ending_text, trace_lines, trace_text}
+use Rattle.tp_trace.specs.Laws.{told_of}
+use Rattle.tp_top.specs.Headline.{CountsTrusted, PrintsTrusted, TracesTrusted}
 use Rattle.tp_top.specs.Refusals.{refusal_line, step_line}
 use Rattle.tp_top.specs.Input.{AreRefused, Reads, TakesAll}
-use Rattle.tp_top.specs.Run.{ComesToRest, FailsFor, HasRefusal, HasText, IsBulk, IsInputRefused, IsLine, IsOfCommand, IsRun, RefusesFor, RefusesStep, RunsTo, TakesRefused, after_listed, automatic, automatic_bound, final, first_refused}
+use Rattle.tp_top.specs.Run.{ComesToRest, FailsFor, HasRefusal, HasText, IsBulk, IsInputRefused, IsLine, IsOfCommand, IsRun, IsTrace, RefusesFor, RefusesStep, RunsTo, TakesRefused, after_listed, all_steps, automatic, automatic_bound, final, first_refused, nothing_before, report_of, trace_before, whole_trace}
 use Rattle.tp_top.specs.declared.listed.StepRefusal.{StepRefusal}
 use Rattle.tp_top.specs.Top.{Ends, EndsRightly}
 use Rattle.tp_types.specs.Faults.{Rose}
 use Rattle.tp_types.specs.Spelling.{number_of}
 use Rattle.tp_words.proofs.TextLemmas.{one_command}
-use Rattle.tp_words.specs.Commands.{IsCommand, bulk_by, bulk_of, command_by, run_alone}
+use Rattle.tp_words.specs.Commands.{IsCommand, IsNoCommand, bulk_by, bulk_of, command_by, alone}
 use Rattle.tp_words.specs.declared.commands.Command.{Command}
-use Rattle.tp_words.specs.declared.commands.Command.TheVariants.{Bulk, Run}
+use Rattle.tp_words.specs.declared.commands.Command.TheVariants.{Bulk, Run, Trace}
 
 nothing_consumed : (left : Option (List ℕ)) → Consumes left left []
 nothing_consumed None = tt
@@ -54,7 +60,7 @@ few_by_steps : (sc : Scenario) → ComesToRest sc → length (final sc).state.ma
 few_by_steps sc h = omega (arith, h.few_mails, h.trusted.steps_are)
 
 -- what a run comes to is a trusted history whose steps begin with the listed ones, and its report was written
-prints_trusted : (input input' out out' : Option (List ℕ)) (text : List ℕ) → RunsTo input input' text → Appends out out' text → PrintsTrusted input input' out out'
+prints_trusted : (input input' out out' : Option (List ℕ)) (text : List ℕ) → RunsTo report_of input input' text → Appends out out' text → PrintsTrusted input input' out out'
 prints_trusted input input' out out' text r written =
     record {
       bytes = r.bytes;
@@ -69,6 +75,35 @@ prints_trusted input input' out out' text r written =
       few_mails = few_by_steps r.scenario r.rests;
       printable = r.rests.printable;
       written = subst (Appends out out') r.text_is written;
+    }
+
+-- the report of a run is in its trace
+told_at_rest : (sc : Scenario)
+    → report_text sc (final sc).state.facts (ending_of sc (final sc).state) ≡ codes "tpvc 1\n" ++ flat_map told_of (trace_lines sc (all_steps sc)) ++ ending_text sc (ending_of sc (final sc).state)
+told_at_rest sc =
+    subst (λ (m : Machine). report_text sc m.state.facts (ending_of sc m.state) ≡ codes "tpvc 1\n" ++ flat_map told_of (trace_lines sc (all_steps sc)) ++ ending_text sc (ending_of sc m.state))
+    (sym (final_after sc)) (reports_told sc (all_steps sc))
+
+trace_at_rest : (sc : Scenario) → whole_trace sc ≡ trace_text sc (all_steps sc) ++ ending_text sc (ending_of sc (final sc).state)
+trace_at_rest sc = ap (λ (m : Machine). trace_text sc (all_steps sc) ++ ending_text sc (ending_of sc m.state)) (sym (final_after sc))
+
+-- what a run comes to is a trusted history, and its trace was written
+traces_trusted : (input input' out out' : Option (List ℕ)) (text : List ℕ) → RunsTo whole_trace input input' text → Appends out out' text → TracesTrusted input input' out out'
+traces_trusted input input' out out' text r written =
+    record {
+      bytes = r.bytes;
+      scenario = r.scenario;
+      later = automatic r.scenario;
+      facts = (final r.scenario).state.facts;
+      ending = ending_of r.scenario (final r.scenario).state;
+      taken = r.taken;
+      read = r.reads;
+      by_themselves = automatic_by_themselves r.scenario (automatic_bound r.scenario) 0 (after_listed r.scenario);
+      trusted = r.rests.trusted;
+      few_mails = few_by_steps r.scenario r.rests;
+      printable = r.rests.printable;
+      told = told_at_rest r.scenario;
+      written = subst (Appends out out') (r.text_is ∙ trace_at_rest r.scenario) written;
     }
 
 counts_trusted : (count : ℕ) (out out' : Option (List ℕ)) (text : List ℕ) → IsLine count text → Appends out out' text → CountsTrusted count out out'
@@ -129,10 +164,10 @@ memory_rightly input notes notes' =
       lawful = λ _ _ _. inr refl;
     }
 
--- a report comes of a scenario whose run comes to rest
-report_rightly : (input : List ℕ) (left' : Option (List ℕ)) (text : List ℕ) (notes notes' : Option (List ℕ))
-    → RunsTo (Some input) left' text → EndsRightly input Done notes notes'
-report_rightly input left' text notes notes' r =
+-- what is told comes of a scenario whose run comes to rest
+run_rightly : (told : Scenario → List ℕ) (input : List ℕ) (left' : Option (List ℕ)) (text : List ℕ) (notes notes' : Option (List ℕ))
+    → RunsTo told (Some input) left' text → EndsRightly input Done notes notes'
+run_rightly told input left' text notes notes' r =
     let reads : Reads input r.scenario = subst (λ (bs : List ℕ). Reads bs r.scenario) (whole_input input left' r.bytes r.taken) r.reads in
     record {
       too_long = λ long. absurd (refused_or_read input error.TooLong r.scenario (long_refused input long) reads);
@@ -172,9 +207,9 @@ refusal_rightly input left' notes notes' (error.Policy path fault) t written = t
 refusal_rightly input left' notes notes' error.NoMemory t written = absurd t
 
 -- the line of a listed step that is refused
-step_rightly : (input : List ℕ) (left' notes notes' : Option (List ℕ)) (line : List ℕ) → RefusesStep (Some input) left' line
+step_rightly : (front : Scenario → ℕ → List ℕ) (input : List ℕ) (left' notes notes' : Option (List ℕ)) (text line : List ℕ) → RefusesStep front (Some input) left' text line
     → Appends notes notes' line → EndsRightly input Refused notes notes'
-step_rightly input left' notes notes' line r written =
+step_rightly front input left' notes notes' text line r written =
     let reads : Reads input r.scenario = subst (λ (bs : List ℕ). Reads bs r.scenario) (whole_input input left' r.bytes r.taken) r.reads in
     record {
       too_long = λ long. absurd (refused_or_read input error.TooLong r.scenario (long_refused input long) reads);
@@ -193,9 +228,9 @@ step_rightly input left' notes notes' line r written =
         ∙ ap (λ (x : StepRefusal). step_line sc x.at x.why) same
 
 -- the line of a refusal
-line_rightly : (input : List ℕ) (left' notes notes' : Option (List ℕ)) (line : List ℕ) → HasRefusal (Some input) left' line → Appends notes notes' line → EndsRightly input Refused notes notes'
-line_rightly input left' notes notes' line (inl r) written = refusal_rightly input left' notes notes' r.why r.cause (subst (Appends notes notes') r.line_is written)
-line_rightly input left' notes notes' line (inr r) written = step_rightly input left' notes notes' line r written
+line_rightly : (front : Scenario → ℕ → List ℕ) (input : List ℕ) (left' notes notes' : Option (List ℕ)) (text line : List ℕ) → HasRefusal front (Some input) left' text line → Appends notes notes' line → EndsRightly input Refused notes notes'
+line_rightly front input left' notes notes' text line (inl r) written = refusal_rightly input left' notes notes' r.why r.cause (subst (Appends notes notes') r.line_is written)
+line_rightly front input left' notes notes' text line (inr r) written = step_rightly front input left' notes notes' text line r written
 
 -- ---- the same, of an input that may be told
 
@@ -206,54 +241,78 @@ pub memory_complete : (left notes notes' : Option (List ℕ)) → Complete left 
 memory_complete None notes notes' = tt
 memory_complete (Some input) notes notes' = memory_rightly input notes notes'
 
-report_complete : (left left' : Option (List ℕ)) (text : List ℕ) (notes notes' : Option (List ℕ)) → RunsTo left left' text → Complete left Done notes notes'
-report_complete None left' text notes notes' r = tt
-report_complete (Some input) left' text notes notes' r = report_rightly input left' text notes notes' r
+run_complete : (told : Scenario → List ℕ) (left left' : Option (List ℕ)) (text : List ℕ) (notes notes' : Option (List ℕ)) → RunsTo told left left' text → Complete left Done notes notes'
+run_complete told None left' text notes notes' r = tt
+run_complete told (Some input) left' text notes notes' r = run_rightly told input left' text notes notes' r
 
-refusal_complete : (left left' notes notes' : Option (List ℕ)) (line : List ℕ) → HasRefusal left left' line → Appends notes notes' line → Complete left Refused notes notes'
-refusal_complete None left' notes notes' line r written = tt
-refusal_complete (Some input) left' notes notes' line r written = line_rightly input left' notes notes' line r written
+refusal_complete : (front : Scenario → ℕ → List ℕ) (left left' notes notes' : Option (List ℕ)) (text line : List ℕ) → HasRefusal front left left' text line → Appends notes notes' line → Complete left Refused notes notes'
+refusal_complete front None left' notes notes' text line r written = tt
+refusal_complete front (Some input) left' notes notes' text line r written = line_rightly front input left' notes notes' text line r written
 
 -- ---- by the command
 
-not_both : (words : List Text) (count : ℕ) → IsBulk words count → IsRun words → ⊥
-not_both words count bulk run = let same = one_command words (Bulk count) Run bulk run in cc
+-- the words are a command that reads an input
+abbrev pub IsReading : List Text → Type 0
+IsReading words = IsRun words ⊎ IsTrace words
+
+not_reading : (words : List Text) (count : ℕ) → IsBulk words count → IsReading words → ⊥
+not_reading words count bulk (inl run) = let same = one_command words (Bulk count) Run bulk run in cc
+not_reading words count bulk (inr trace) = let same = one_command words (Bulk count) Trace bulk trace in cc
+
+pub not_command : (words : List Text) → IsNoCommand words → IsReading words → ⊥
+not_command words none (inl run) = none Run run
+not_command words none (inr trace) = none Trace trace
+
+not_both : (words : List Text) → IsRun words → IsTrace words → ⊥
+not_both words run trace = let same = one_command words Run Trace run trace in cc
 
 same_count : (words : List Text) (count other : ℕ) → IsBulk words count → IsBulk words other → count ≡ other
 same_count words count other one two = let same = one_command words (Bulk count) (Bulk other) one two in cc
 
 pub prints_by : (words : List Text) (command : Command) (input input' out out' : Option (List ℕ)) (text : List ℕ) → IsCommand words command → IsRun words → HasText command input input' text → Appends out out' text → PrintsTrusted input input' out out'
 prints_by words Run input input' out out' text are run has written = prints_trusted input input' out out' text has written
-prints_by words (Bulk count) input input' out out' text are run has written = absurd (not_both words count are run)
+prints_by words Trace input input' out out' text are run has written = absurd (not_both words run are)
+prints_by words (Bulk count) input input' out out' text are run has written = absurd (not_reading words count are (inl run))
+
+pub traces_by : (words : List Text) (command : Command) (input input' out out' : Option (List ℕ)) (text : List ℕ) → IsCommand words command → IsTrace words → HasText command input input' text → Appends out out' text → TracesTrusted input input' out out'
+traces_by words Run input input' out out' text are trace has written = absurd (not_both words are trace)
+traces_by words Trace input input' out out' text are trace has written = traces_trusted input input' out out' text has written
+traces_by words (Bulk count) input input' out out' text are trace has written = absurd (not_reading words count are (inr trace))
 
 pub counts_by : (words : List Text) (command : Command) (count : ℕ) (input input' out out' : Option (List ℕ)) (text : List ℕ) → IsCommand words command → IsBulk words count → HasText command input input' text → Appends out out' text → CountsTrusted count out out'
-counts_by words Run count input input' out out' text are bulk has written = absurd (not_both words count bulk are)
+counts_by words Run count input input' out out' text are bulk has written = absurd (not_reading words count bulk (inl are))
+counts_by words Trace count input input' out out' text are bulk has written = absurd (not_reading words count bulk (inr are))
 counts_by words (Bulk other) count input input' out out' text are bulk has written =
     counts_trusted count out out' text (subst (λ (n : ℕ). IsLine n text) (same_count words other count are bulk) has) written
 
-pub text_complete : (words : List Text) (command : Command) (left left' : Option (List ℕ)) (text : List ℕ) (notes notes' : Option (List ℕ)) → IsCommand words command → IsRun words → HasText command left left' text → Complete left Done notes notes'
-text_complete words Run left left' text notes notes' are run has = report_complete left left' text notes notes' has
-text_complete words (Bulk count) left left' text notes notes' are run has = absurd (not_both words count are run)
+pub text_complete : (words : List Text) (command : Command) (left left' : Option (List ℕ)) (text : List ℕ) (notes notes' : Option (List ℕ)) → IsCommand words command → IsReading words → HasText command left left' text → Complete left Done notes notes'
+text_complete words Run left left' text notes notes' are reading has = run_complete report_of left left' text notes notes' has
+text_complete words Trace left left' text notes notes' are reading has = run_complete whole_trace left left' text notes notes' has
+text_complete words (Bulk count) left left' text notes notes' are reading has = absurd (not_reading words count are reading)
 
-pub refused_complete : (words : List Text) (command : Command) (left left' notes notes' : Option (List ℕ)) (line : List ℕ) → IsCommand words command → IsRun words → RefusesFor command left left' line → Appends notes notes' line
+pub refused_complete : (words : List Text) (command : Command) (left left' notes notes' : Option (List ℕ)) (text line : List ℕ) → IsCommand words command → IsReading words → RefusesFor command left left' text line → Appends notes notes' line
     → Complete left Refused notes notes'
-refused_complete words Run left left' notes notes' line are run r written = refusal_complete left left' notes notes' line r written
-refused_complete words (Bulk count) left left' notes notes' line are run r written = absurd r
+refused_complete words Run left left' notes notes' text line are reading r written = refusal_complete nothing_before left left' notes notes' text line r written
+refused_complete words Trace left left' notes notes' text line are reading r written = refusal_complete trace_before left left' notes notes' text line r written
+refused_complete words (Bulk count) left left' notes notes' text line are reading r written = absurd r
 
 pub failed_complete : (command : Command) (left left' notes notes' : Option (List ℕ)) (faults faults' : ℕ) → FailsFor command left left' faults faults' → (Rose faults faults' → ⊥) → Complete left ReadFault notes notes'
 failed_complete Run left left' notes notes' faults faults' fails none = absurd (none fails.0)
+failed_complete Trace left left' notes notes' faults faults' fails none = absurd (none fails.0)
 failed_complete (Bulk count) left left' notes notes' faults faults' fails none = absurd fails
 
 -- ---- the large scenario
 
 -- no step of it is refused
-pub refused_counted : (words : List Text) (command : Command) (count : ℕ) (status : Status) (left left' : Option (List ℕ)) (line : List ℕ) → IsCommand words command → IsBulk words count → RefusesFor command left left' line → Ends status Done
-refused_counted words Run count status left left' line are bulk r = absurd (not_both words count bulk are)
-refused_counted words (Bulk other) count status left left' line are bulk r = absurd r
+pub refused_counted : (words : List Text) (command : Command) (count : ℕ) (status : Status) (left left' : Option (List ℕ)) (text line : List ℕ) → IsCommand words command → IsBulk words count → RefusesFor command left left' text line → Ends status Done
+refused_counted words Run count status left left' text line are bulk r = absurd (not_reading words count bulk (inl are))
+refused_counted words Trace count status left left' text line are bulk r = absurd (not_reading words count bulk (inr are))
+refused_counted words (Bulk other) count status left left' text line are bulk r = absurd r
 
 -- and it reads no input
 pub failed_counted : (words : List Text) (command : Command) (count : ℕ) (status : Status) (left left' : Option (List ℕ)) (faults faults' : ℕ) → IsCommand words command → IsBulk words count → FailsFor command left left' faults faults' → Ends status Done
-failed_counted words Run count status left left' faults faults' are bulk r = absurd (not_both words count bulk are)
+failed_counted words Run count status left left' faults faults' are bulk r = absurd (not_reading words count bulk (inl are))
+failed_counted words Trace count status left left' faults faults' are bulk r = absurd (not_reading words count bulk (inr are))
 failed_counted words (Bulk other) count status left left' faults faults' are bulk r = absurd r
 
 -- ---- a number of transactions
@@ -274,20 +333,27 @@ word_within : (word : Option (List ℕ)) (other : ℕ) → option_and_then bulk_
 word_within None other e = absurd (cc)
 word_within (Some bytes) other e = number_within (number_of bytes) other e
 
-run_is_not : (word : Option (List ℕ)) (other : ℕ) → run_alone word ≡ Some (Bulk other) → ⊥
+run_is_not : (word : Option (List ℕ)) (other : ℕ) → alone Run word ≡ Some (Bulk other) → ⊥
 run_is_not None other e = cc
 run_is_not (Some bytes) other e = cc
 
-named_within : (word : Option (List ℕ)) (other : ℕ) (runs bulks : Bool) → (if runs then run_alone word else if bulks then option_and_then bulk_of word else None) ≡ Some (Bulk other) → IsOfCommand (Bulk other)
-named_within word other true bulks e = absurd (run_is_not word other e)
-named_within word other false true e = word_within word other e
-named_within word other false false e = absurd (cc)
+trace_is_not : (word : Option (List ℕ)) (other : ℕ) → alone Trace word ≡ Some (Bulk other) → ⊥
+trace_is_not None other e = cc
+trace_is_not (Some bytes) other e = cc
+
+named_within : (word : Option (List ℕ)) (other : ℕ) (runs traces bulks : Bool)
+    → (if runs then alone Run word else if traces then alone Trace word else if bulks then option_and_then bulk_of word else None) ≡ Some (Bulk other) → IsOfCommand (Bulk other)
+named_within word other true traces bulks e = absurd (run_is_not word other e)
+named_within word other false true bulks e = absurd (trace_is_not word other e)
+named_within word other false false true e = word_within word other e
+named_within word other false false false e = absurd (cc)
 
 first_within : (first second : Option (List ℕ)) (other : ℕ) → command_by first second ≡ Some (Bulk other) → IsOfCommand (Bulk other)
 first_within None second other e = absurd (cc)
-first_within (Some name) second other e = named_within second other (pointwise ◌==◌ name (codes "run")) (pointwise ◌==◌ name (codes "bulk")) e
+first_within (Some name) second other e = named_within second other (pointwise ◌==◌ name (codes "run")) (pointwise ◌==◌ name (codes "trace")) (pointwise ◌==◌ name (codes "bulk")) e
 
 -- words that are a command name from 1 to 128 transactions
 pub of_command : (words : List Text) (command : Command) → IsCommand words command → IsOfCommand command
 of_command words Run h = tt
+of_command words Trace h = tt
 of_command words (Bulk count) h = first_within h.first h.second count h.command_is

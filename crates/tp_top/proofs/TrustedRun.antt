@@ -18,6 +18,7 @@ use Rattle.tp_auto.proofs.GoingLemmas.{Going, going_first, next_goes}
 use Rattle.tp_auto.proofs.NextLemmas.{quiet_finished}
 use Rattle.tp_auto.proofs.StandsLemmas.{stands_after}
 use Rattle.tp_top.proofs.ListedRun.{listed_exist, none_refused}
+use Rattle.tp_trace.specs.Blocks.{AreAllowed}
 
 -- mails are only added
 pub more_mails : (w : State) (taken : Step) (move : Move) → length w.mails ≤ length (state_after w taken move).mails
@@ -30,9 +31,10 @@ record IsDone (sc : Scenario) (m : Machine) (taken : Step) : Type 0 where
   pub exists : IsStepOf sc taken
   pub allowed : refusal m.state taken ≡ None
 
--- the steps name what exists, and are those that the machine then has
+-- the steps name what exists, none is refused, and they are those that the machine then has
 pub record AreDone (sc : Scenario) (m : Machine) (steps : List Step) : Type 0 where
   pub exist : Each (IsStepOf sc) steps
+  pub allowed : AreAllowed sc m steps
   pub steps_are : (after_steps sc m steps).state.steps ≡ m.state.steps ++ steps
 
 -- one step and the rest
@@ -40,13 +42,14 @@ done_first : (sc : Scenario) (m : Machine) (taken : Step) (others : List Step) �
 done_first sc m taken others d rest =
     record {
       exist = (d.exists, rest.exist);
+      allowed = (d.allowed, rest.allowed);
       steps_are = ap (λ (k : Machine). (after_steps sc k others).state.steps) (after_allowed sc m taken d.allowed)
           ∙ (rest.steps_are ∙ (ap (λ (steps : List Step). steps ++ others) (steps_next sc m taken) ∙ append_assoc m.state.steps (taken ∷ []) others));
     }
 
 by_next : (sc : Scenario) (left cursor : ℕ) (m : Machine) (next : Option Step) → is_valid sc ≡ true → next_of sc m cursor ≡ next → Going sc m cursor
     → ((after : ℕ) (k : Machine) → Going sc k after → AreDone sc k (automatic_from sc left after k)) → AreDone sc m (automatic_from sc (suc left) cursor m)
-by_next sc left cursor m None formed e g rest = subst (AreDone sc m) (sym (automatic-none sc (suc left) cursor m e)) (record { exist = tt; steps_are = sym (append-nil m.state.steps) })
+by_next sc left cursor m None formed e g rest = subst (AreDone sc m) (sym (automatic-none sc (suc left) cursor m e)) (record { exist = tt; allowed = tt; steps_are = sym (append-nil m.state.steps) })
 by_next sc left cursor m (Some taken) formed e g rest =
     let goes = next_goes sc m cursor taken formed g e in
     subst (AreDone sc m) (sym (automatic-some sc left cursor m taken e goes.allowed))
@@ -54,7 +57,7 @@ by_next sc left cursor m (Some taken) formed e g rest =
     (rest (cursor_after taken cursor) (machine_after sc m taken) goes.going))
 
 automatic_done : (sc : Scenario) (count cursor : ℕ) (m : Machine) → is_valid sc ≡ true → Going sc m cursor → AreDone sc m (automatic_from sc count cursor m)
-automatic_done sc zero cursor m formed g = record { exist = tt; steps_are = sym (append-nil m.state.steps) }
+automatic_done sc zero cursor m formed g = record { exist = tt; allowed = tt; steps_are = sym (append-nil m.state.steps) }
 automatic_done sc (suc left) cursor m formed g = by_next sc left cursor m (next_of sc m cursor) formed refl g (λ after k going. automatic_done sc left after k formed going)
 
 -- ---- the whole run
@@ -67,18 +70,24 @@ append_steps sc m (taken ∷ first) more = append_steps sc (after_step sc m take
 pub final_after : (sc : Scenario) → final sc ≡ after sc (all_steps sc)
 final_after sc = append_steps sc (opening sc) sc.steps (automatic sc)
 
+allowed_after : (sc : Scenario) (m : Machine) (first more : List Step) → AreAllowed sc m first → AreAllowed sc (after_steps sc m first) more → AreAllowed sc m (first ++ more)
+allowed_after sc m [] more f g = g
+allowed_after sc m (taken ∷ first) more f g =
+    (f.0, allowed_after sc (machine_after sc m taken) first more f.1 (subst (λ (k : Machine). AreAllowed sc (after_steps sc k first) more) (after_allowed sc m taken f.0) g))
+
 -- steps that are done one after another are done together
 done_after : (sc : Scenario) (m : Machine) (first more : List Step) → AreDone sc m first → AreDone sc (after_steps sc m first) more → AreDone sc m (first ++ more)
 done_after sc m first more f g =
     record {
       exist = each_append (IsStepOf sc) first more f.exist g.exist;
+      allowed = allowed_after sc m first more f.allowed g.allowed;
       steps_are = ap (λ (k : Machine). k.state.steps) (sym (append_steps sc m first more))
           ∙ (g.steps_are ∙ (ap (λ (steps : List Step). steps ++ more) f.steps_are ∙ append_assoc m.state.steps first more));
     }
 
 -- listed steps of which none is refused are done
 listed_done : (sc : Scenario) (m : Machine) (at : ℕ) (steps : List Step) → Each (IsStepOf sc) steps → refused_from sc m at steps ≡ None → AreDone sc m steps
-listed_done sc m at [] exist none = record { exist = tt; steps_are = sym (append-nil m.state.steps) }
+listed_done sc m at [] exist none = record { exist = tt; allowed = tt; steps_are = sym (append-nil m.state.steps) }
 listed_done sc m at (taken ∷ steps) exist none =
     let n = none_refused sc m at taken steps none in
     done_first sc m taken steps (record { exists = exist.0; allowed = n.allowed })
@@ -95,7 +104,7 @@ all_done sc formed lawful =
     (listed_done sc (opening sc) 0 sc.steps (listed_exist sc formed) lawful)
     (automatic_done sc (automatic_bound sc) 0 (after_listed sc) formed (going_first sc (after_listed sc) (stands_after sc sc.steps formed (listed_exist sc formed))))
 
-steps_of : (sc : Scenario) → is_valid sc ≡ true → first_refused sc ≡ None → (final sc).state.steps ≡ all_steps sc
+pub steps_of : (sc : Scenario) → is_valid sc ≡ true → first_refused sc ≡ None → (final sc).state.steps ≡ all_steps sc
 steps_of sc formed lawful = ap (λ (m : Machine). m.state.steps) (final_after sc) ∙ (all_done sc formed lawful).steps_are
 
 -- the run of a valid scenario that comes to be quiet leaves a trusted history, where its last state is trusted

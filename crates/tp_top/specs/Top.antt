@@ -48,14 +48,16 @@ pub record IsDone (call : Call) : Type 0 where
   pub written : Appends call.out.old call.out.new text
   pub notes_kept : IsUntouched call.notes
 
--- the words are a command, which is refused; the line that says why was written to notes, and nothing to out
+-- the words are a command, which is refused; what is told before that was written to out, which for `run` is nothing, and the
+-- line that says why to notes
 pub record IsRefused (call : Call) : Type 0 where
   pub command : Command
   pub words_are : IsCommand call.words command
+  pub text : List ℕ
   pub line : List ℕ
-  pub cause : RefusesFor command call.input.old call.input.new line
+  pub cause : RefusesFor command call.input.old call.input.new text line
+  pub told : Appends call.out.old call.out.new text
   pub written : Appends call.notes.old call.notes.new line
-  pub out_kept : IsUntouched call.out
 
 -- the words are no command, the line on usage was written to notes, and nothing to out
 pub record IsUsage (call : Call) : Type 0 where
@@ -86,15 +88,27 @@ pub record IsOutFault (call : Call) : Type 0 where
   pub rose : HasFailed call.out
   pub notes_kept : IsUntouched call.notes
 
--- notes failed after a part of the line of a refusal, and out was kept
+-- out failed after a part of what is told before a refusal, and notes were kept; for `run` it does not, as that is empty
+pub record IsTellingFault (call : Call) : Type 0 where
+  pub command : Command
+  pub words_are : IsCommand call.words command
+  pub text : List ℕ
+  pub line : List ℕ
+  pub cause : RefusesFor command call.input.old call.input.new text line
+  pub front : AppendsFront call.out.old call.out.new text
+  pub rose : HasFailed call.out
+  pub notes_kept : IsUntouched call.notes
+
+-- notes failed after a part of the line of a refusal, and what is told before it was written to out, which for `run` is nothing
 pub record IsRefusalFault (call : Call) : Type 0 where
   pub command : Command
   pub words_are : IsCommand call.words command
+  pub text : List ℕ
   pub line : List ℕ
-  pub cause : RefusesFor command call.input.old call.input.new line
+  pub cause : RefusesFor command call.input.old call.input.new text line
+  pub told : Appends call.out.old call.out.new text
   pub front : AppendsFront call.notes.old call.notes.new line
   pub rose : HasFailed call.notes
-  pub out_kept : IsUntouched call.out
 
 -- notes failed after a part of the line on usage, and out was kept
 pub record IsUsageFault (call : Call) : Type 0 where
@@ -109,7 +123,8 @@ EndsWith Done call = IsDone call
 EndsWith Refused call = IsRefused call
 EndsWith Usage call = IsUsage call
 EndsWith ReadFault call = IsReadFault call
-EndsWith WriteFault call = IsOutFault call ⊎ (IsRefusalFault call ⊎ IsUsageFault call)
+EndsWith WriteFault call =
+    IsOutFault call ⊎ (IsTellingFault call ⊎ (IsRefusalFault call ⊎ IsUsageFault call))
 EndsWith NoMemory call = IsNoMemory call
 
 -- ---- which status comes, where the input is told and no count rose

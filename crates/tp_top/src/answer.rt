@@ -1,5 +1,5 @@
 //! The answer to a command, made whole before anything is written.
-ghost use Rattle.std.specs.Prelude.{◌≡◌, ◌≢◌, ◌+◌, true, IfOk, OnOk};
+ghost use Rattle.std.specs.Prelude.{[], ◌≡◌, ◌≢◌, ◌+◌, true, IfErr, IfOk, OnOk};
 ghost use Rattle.tp_model.specs.Agreement.{is_agreed};
 ghost use Rattle.tp_model.specs.Valid as valid;
 ghost use Rattle.tp_model.specs.Causes.{is_caused};
@@ -12,12 +12,13 @@ ghost use Rattle.tp_machine.specs.WorldView.{start};
 ghost use Rattle.tp_report.specs.ReportText.{report_text};
 ghost use Rattle.tp_runs.specs.Laws.{IsTrustedState};
 ghost use Rattle.tp_top.specs.Run.{Answers, IsOfCommand};
-ghost use Rattle.tp_top.specs.mirrors.Answers.{IsRefusal, IsReported, IsWhole};
+ghost use Rattle.tp_top.specs.mirrors.Answers.{IsInput, IsRefusal, IsReported, IsUnread, IsWhole};
 ghost use Rattle.tp_words.specs.declared.commands.Command.TheVariants as Command;
 
 use crate::bulk::bulk;
 use crate::ended::{RunEnd, ending, run};
 use crate::refusals::{refusal_line, step_line};
+use crate::traced::traced;
 use std::alloc::Global;
 use tp_io::{ReadError, Source, read_to_end};
 use tp_machine::World;
@@ -33,10 +34,11 @@ use tp_words::Command;
 /// What comes of a command.
 #[derive(Drop)]
 pub enum Answer {
-    /// What it is asked for: the report of a run, or the line of a large one.
+    /// What it is asked for: the report of a run or its trace, or the line of a large one.
     Text(Text),
-    /// The input is not a scenario that can be run, or one of its listed steps is refused: the line that says so.
-    Refused(Text),
+    /// The input is not a scenario that can be run, or one of its listed steps is refused: what is told before that,
+    /// and the line that says so.
+    Refused { text: Text, line: Text },
     /// The input failed.
     ReadFault,
     /// No memory was to be had.
@@ -49,32 +51,62 @@ pub fn answer_to<I: Source>(alloc: Global, command: Command, input: &mut I) -> A
     ensures cause { Answers command (I.left input.old) (I.left input.new) (I.faults input.old)
         (I.faults input.new) result }
     ensures taken { TakesAtMost (input_max + 1) (I.left input.old) (I.left input.new) }
-    ensures unread { command ≢ Command.Run → input.new ≡ input.old }
+    ensures unread { command ≢ Command.Run → command ≢ Command.Trace → input.new ≡ input.old }
 {
     match command {
-        Command::Run => answer_to_input(alloc, input),
+        Command::Run => answer_by_run(alloc, input),
+        Command::Trace => answer_by_trace(alloc, input),
         Command::Bulk(count) => bulk(alloc, count),
     }
 }
 
 /// Reads an input to its end and runs its scenario.
-fn answer_to_input<I: Source>(alloc: Global, input: &mut I) -> Answer
+fn answer_by_run<I: Source>(alloc: Global, input: &mut I) -> Answer
     ensures cause { Answers Command.Run (I.left input.old) (I.left input.new) (I.faults input.old)
         (I.faults input.new) result }
     ensures taken { TakesAtMost (input_max + 1) (I.left input.old) (I.left input.new) }
 {
+    match scenario_in(alloc, input) {
+        Err(answer) => answer,
+        Ok(scenario) => {
+            let answer = reported(alloc, &scenario);
+            drop(scenario);
+            answer
+        }
+    }
+}
+
+/// Reads an input to its end and traces its scenario.
+fn answer_by_trace<I: Source>(alloc: Global, input: &mut I) -> Answer
+    ensures cause { Answers Command.Trace (I.left input.old) (I.left input.new) (I.faults input.old)
+        (I.faults input.new) result }
+    ensures taken { TakesAtMost (input_max + 1) (I.left input.old) (I.left input.new) }
+{
+    match scenario_in(alloc, input) {
+        Err(answer) => answer,
+        Ok(scenario) => {
+            let answer = traced(alloc, &scenario);
+            drop(scenario);
+            answer
+        }
+    }
+}
+
+/// The scenario that an input says, which is read to its end, or the answer to an input that says none.
+fn scenario_in<I: Source>(alloc: Global, input: &mut I) -> Result<Scenario, Answer>
+    ensures unread { IfErr result (IsUnread (I.left input.old) (I.left input.new) (I.faults input.old)
+        (I.faults input.new)) }
+    ensures read { IfOk result (IsInput (I.left input.old) (I.left input.new)) }
+    ensures taken { TakesAtMost (input_max + 1) (I.left input.old) (I.left input.new) }
+{
     match read_to_end(alloc, input) {
-        Err(ReadError::TooLong) => refused(alloc, &ScenarioError::TooLong),
-        Err(ReadError::Fault) => Answer::ReadFault,
-        Err(ReadError::NoMemory) => Answer::NoMemory,
+        Err(ReadError::TooLong) => Err(refused(alloc, &ScenarioError::TooLong)),
+        Err(ReadError::Fault) => Err(Answer::ReadFault),
+        Err(ReadError::NoMemory) => Err(Answer::NoMemory),
         Ok(bytes) => match read(alloc, bytes.as_slice()) {
-            Err(ScenarioError::NoMemory) => Answer::NoMemory,
-            Err(why) => refused(alloc, &why),
-            Ok(scenario) => {
-                let answer = reported(alloc, &scenario);
-                drop(scenario);
-                answer
-            }
+            Err(ScenarioError::NoMemory) => Err(Answer::NoMemory),
+            Err(why) => Err(refused(alloc, &why)),
+            Ok(scenario) => Ok(scenario),
         },
     }
 }
@@ -85,8 +117,17 @@ fn refused(alloc: Global, why: &ScenarioError) -> Answer
 {
     match refusal_line(alloc, why) {
         Err(NoMemory) => Answer::NoMemory,
-        Ok(line) => Answer::Refused(line),
+        Ok(line) => Answer::Refused {
+            text: no_text(alloc),
+            line,
+        },
     }
+}
+
+fn no_text(alloc: Global) -> Text
+    ensures { result.0 ≡ [] }
+{
+    Text(List::new(alloc))
 }
 
 /// Runs a scenario and prints its report.
@@ -117,7 +158,13 @@ fn report_in(alloc: Global, world: &mut World, scenario: &Scenario) -> Result<An
     ensures { IfOk result (IsReported scenario.now) }
 {
     match run(world, alloc, scenario)? {
-        RunEnd::Stopped(refused) => Ok(Answer::Refused(step_line(alloc, scenario, refused)?)),
+        RunEnd::Stopped(refused) => {
+            let line = step_line(alloc, scenario, refused)?;
+            Ok(Answer::Refused {
+                text: no_text(alloc),
+                line,
+            })
+        }
         RunEnd::AtRest => Ok(Answer::Text(text_of(alloc, world)?)),
     }
 }

@@ -1,10 +1,10 @@
 //! The top call of the program.
-ghost use Rattle.std.specs.Prelude.{◌≡◌, ◌+◌, ℕ, IfSome};
+ghost use Rattle.std.specs.Prelude.{◌≡◌, ◌⊎◌, ◌+◌, ℕ, IfSome};
 ghost use Rattle.tp_types.specs.Faults.{Rose};
 ghost use Rattle.tp_io.specs.Whole.{TakesAtMost, input_max};
 ghost use Rattle.tp_top.specs.declared.status.Status.TheVariants as Status;
-ghost use Rattle.tp_top.specs.Headline.{CountsTrusted, PrintsTrusted};
-ghost use Rattle.tp_top.specs.Run.{IsBulk, IsRun};
+ghost use Rattle.tp_top.specs.Headline.{CountsTrusted, PrintsTrusted, TracesTrusted};
+ghost use Rattle.tp_top.specs.Run.{IsBulk, IsRun, IsTrace};
 ghost use Rattle.tp_top.specs.Top.{Ends, EndsRightly, EndsWith};
 ghost use Rattle.tp_words.specs.Commands.{IsNoCommand};
 
@@ -16,8 +16,9 @@ use tp_types::{NoMemory, Text};
 use tp_words::command_of;
 
 /// Does all that the program does. For the command `run` it reads the input, and writes its report to `out`, or why
-/// there is none to `notes`; for the command `bulk` with a number it makes a large scenario, and writes the line of its
-/// run to `out`. It always returns. The whole text is made before the first write, and the writes take no memory.
+/// there is none to `notes`; for the command `trace` it writes its trace, also as far as a step that is refused; for the
+/// command `bulk` with a number it makes a large scenario, and writes the line of its run to `out`. It always returns.
+/// The whole text is made before the first write, and the writes take no memory.
 pub fn tpvc<I: Source, O: Sink, N: Sink>(
     alloc: Global,
     words: &[Text],
@@ -28,6 +29,8 @@ pub fn tpvc<I: Source, O: Sink, N: Sink>(
     // The headline, by the command.
     ensures printed { IsRun words.now → result ≡ Status.Done
         → PrintsTrusted (I.left input.old) (I.left input.new) (O.written out.old) (O.written out.new) }
+    ensures traced { IsTrace words.now → result ≡ Status.Done
+        → TracesTrusted (I.left input.old) (I.left input.new) (O.written out.old) (O.written out.new) }
     ensures counted { (count : ℕ) → IsBulk words.now count → result ≡ Status.Done
         → CountsTrusted count (O.written out.old) (O.written out.new) }
 
@@ -59,7 +62,8 @@ pub fn tpvc<I: Source, O: Sink, N: Sink>(
     // or by want of memory.
     ensures called { IsNoCommand words.now → ¬ (Rose (N.faults notes.old) (N.faults notes.new))
         → Ends result Status.Usage }
-    ensures complete { IsRun words.now → ¬ (Rose (I.faults input.old) (I.faults input.new))
+    ensures complete { IsRun words.now ⊎ IsTrace words.now
+        → ¬ (Rose (I.faults input.old) (I.faults input.new))
         → ¬ (Rose (O.faults out.old) (O.faults out.new))
         → ¬ (Rose (N.faults notes.old) (N.faults notes.new))
         → IfSome (I.left input.old) (λ bytes.
@@ -67,9 +71,10 @@ pub fn tpvc<I: Source, O: Sink, N: Sink>(
     ensures finished { (count : ℕ) → IsBulk words.now count
         → ¬ (Rose (O.faults out.old) (O.faults out.new)) → Ends result Status.Done }
 
-    // At every status at most one byte more than an input may have is read, and where the words are not `run` none is.
+    // At every status at most one byte more than an input may have is read, and where the words are neither `run` nor
+    // `trace` none is.
     ensures taken { TakesAtMost (input_max + 1) (I.left input.old) (I.left input.new) }
-    ensures unread { ¬ (IsRun words.now) → input.new ≡ input.old }
+    ensures unread { ¬ (IsRun words.now) → ¬ (IsTrace words.now) → input.new ≡ input.old }
 {
     let command = match command_of(alloc, words) {
         Err(NoMemory) => return Status::NoMemory,
@@ -86,8 +91,11 @@ pub fn tpvc<I: Source, O: Sink, N: Sink>(
             Ok(()) => Status::Done,
             Err(_) => Status::WriteFault,
         },
-        Answer::Refused(line) => match write_all(notes, line.0.as_slice()) {
-            Ok(()) => Status::Refused,
+        Answer::Refused { text, line } => match write_all(out, text.0.as_slice()) {
+            Ok(()) => match write_all(notes, line.0.as_slice()) {
+                Ok(()) => Status::Refused,
+                Err(_) => Status::WriteFault,
+            },
             Err(_) => Status::WriteFault,
         },
         Answer::ReadFault => Status::ReadFault,

@@ -6,7 +6,7 @@ use Rattle.tp_types.specs.Spelling.{number_of}
 use Rattle.tp_types.specs.declared.name.Text.{Text}
 use Rattle.tp_words.specs.Reading.{IsRead}
 use Rattle.tp_words.specs.declared.commands.Command.{Command}
-use Rattle.tp_words.specs.declared.commands.Command.TheVariants.{Run, Bulk}
+use Rattle.tp_words.specs.declared.commands.Command.TheVariants.{Run, Trace, Bulk}
 
 -- the bytes of each word
 abbrev pub bytes_of : List Text → List (List ℕ)
@@ -23,14 +23,15 @@ bulk_by count = if nat_le 1 count && nat_le count 128 then Some (Bulk count) els
 abbrev pub bulk_of : List ℕ → Option Command
 bulk_of word = option_and_then bulk_by (number_of word)
 
--- `run` stands alone
-abbrev pub run_alone : Option (List ℕ) → Option Command
-run_alone None = Some Run
-run_alone (Some word) = None
+-- a command that stands alone
+abbrev pub alone : Command → Option (List ℕ) → Option Command
+alone command None = Some command
+alone command (Some word) = None
 
 abbrev pub named : List ℕ → Option (List ℕ) → Option Command
 named name word =
-    if pointwise ◌==◌ name (codes "run") then run_alone word
+    if pointwise ◌==◌ name (codes "run") then alone Run word
+    else if pointwise ◌==◌ name (codes "trace") then alone Trace word
     else if pointwise ◌==◌ name (codes "bulk") then option_and_then bulk_of word
     else None
 

@@ -13,6 +13,8 @@ use tp_types::{NoMemory, Text, number_of};
 pub enum Command {
     /// To run the scenario on its input.
     Run,
+    /// To run it, and to tell each step.
+    Trace,
     /// To run the large scenario of so many transactions, from 1 to 128.
     Bulk(u32),
 }
@@ -49,14 +51,22 @@ fn bulk_of(word: &str) -> Option<Command>
     }
 }
 
+fn alone(command: Command, word: Option<&str>) -> Option<Command>
+    ensures { result ≡ commands.alone command (option_map (λ word. word.now) word.entry) }
+{
+    match word {
+        None => Some(command),
+        Some(_) => None,
+    }
+}
+
 fn named(name: &str, word: Option<&str>) -> Option<Command>
     ensures { result ≡ commands.named name.now (option_map (λ word. word.now) word.entry) }
 {
     if name == "run" {
-        match word {
-            None => Some(Command::Run),
-            Some(_) => None,
-        }
+        alone(Command::Run, word)
+    } else if name == "trace" {
+        alone(Command::Trace, word)
     } else if name == "bulk" {
         match word {
             None => None,

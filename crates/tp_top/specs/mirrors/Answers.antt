@@ -1,8 +1,9 @@
 -- What the helpers of the answer to an input promise to one another.
-use Rattle.std.specs.Prelude.{◌≡◌, List, ℕ, true, false, Option, Some, None}
-use Rattle.tp_model.specs.Words.{Scenario, Step}
+use Rattle.std.specs.Prelude.{◌≡◌, List, [], ℕ, true, false, Option, Some, None}
+use Rattle.tp_model.specs.Valid.{is_valid}
+use Rattle.tp_model.specs.Words.{Ending, Scenario, Step}
 use Rattle.tp_runs.specs.Laws.{HasAllCommits, HasAllEnds, IsTrustedState}
-use Rattle.tp_machine.specs.Machine.{State}
+use Rattle.tp_machine.specs.Machine.{State, ending_of}
 use Rattle.tp_machine.specs.WorldView.{WorldView}
 use Rattle.tp_scenario.specs.declared.from_bytes.ScenarioError.{ScenarioError}
 use Rattle.tp_top.specs.declared.answer.Answer.{Answer}
@@ -10,11 +11,14 @@ use Rattle.tp_top.specs.declared.answer.Answer.TheVariants as answer
 use Rattle.tp_top.specs.declared.ended.RunEnd.{RunEnd}
 use Rattle.tp_top.specs.declared.ended.RunEnd.TheVariants as end
 use Rattle.tp_top.specs.declared.listed.StepRefusal.{StepRefusal}
+use Rattle.tp_top.specs.declared.traced.Rehearsed.{Rehearsed}
+use Rattle.tp_top.specs.declared.traced.Rehearsed.TheVariants as rehearsed
 use Rattle.tp_auto.specs.Auto.{is_quiet, world_after}
 use Rattle.tp_bulk.specs.Bulk.{scenario_of}
 use Rattle.tp_top.specs.Listed.{refused_from}
 use Rattle.tp_top.specs.Refusals.{refusal_line, step_line}
-use Rattle.tp_top.specs.Run.{after_listed, bulk_line, final, first_refused, report_of}
+use Rattle.tp_top.specs.Input.{Reads, TakesAll}
+use Rattle.tp_top.specs.Run.{FailsToRead, RefusesInput, after_listed, all_steps, bulk_line, final, first_refused, nothing_before, report_of, trace_before, whole_trace}
 
 -- ---- listed steps
 
@@ -56,38 +60,73 @@ pub record IsRested (sc : Scenario) : Type 0 where
   pub so_far : IsTrustedState sc (final sc).state
   pub whole : IsWhole sc (final sc).state
 
--- and the text is its report
-pub record IsRunTo (sc : Scenario) (text : List ℕ) : Type 0 where
+-- and the text is what is told of it
+pub record IsRunTo (told : Scenario → List ℕ) (sc : Scenario) (text : List ℕ) : Type 0 where
   pub rested : IsRested sc
-  pub text_is : text ≡ report_of sc
+  pub text_is : text ≡ told sc
 
 -- or the line of the large scenario
 pub record IsCountedTo (count : ℕ) (text : List ℕ) : Type 0 where
   pub rested : IsRested (scenario_of count)
   pub text_is : text ≡ bulk_line count
 
--- a listed step is refused, and the line says which is the first, and why
-pub record IsStopped (sc : Scenario) (line : List ℕ) : Type 0 where
+-- a listed step is refused; the text is what is told of the steps before it, and the line says which is the first, and why
+pub record IsStopped (front : Scenario → ℕ → List ℕ) (sc : Scenario) (text line : List ℕ) : Type 0 where
   pub refused : StepRefusal
   pub first : first_refused sc ≡ Some refused
+  pub text_is : text ≡ front sc refused.at
   pub line_is : line ≡ step_line sc refused.at refused.why
 
 -- the same, as an answer
+abbrev pub IsTold : (Scenario → List ℕ) → (Scenario → ℕ → List ℕ) → Scenario → Answer → Type 0
+IsTold told front sc (answer.Text text) = IsRunTo told sc text.0
+IsTold told front sc (answer.Refused text line) = IsStopped front sc text.0 line.0
+IsTold told front sc answer.NoMemory = Unit {0}
+IsTold told front sc answer.ReadFault = ⊥
+
+-- by the report of its run
 abbrev pub IsReported : Scenario → Answer → Type 0
-IsReported sc (answer.Text text) = IsRunTo sc text.0
-IsReported sc (answer.Refused line) = IsStopped sc line.0
-IsReported sc answer.NoMemory = Unit {0}
-IsReported sc answer.ReadFault = ⊥
+IsReported sc answer = IsTold report_of nothing_before sc answer
+
+-- by its trace
+abbrev pub IsTraced : Scenario → Answer → Type 0
+IsTraced sc answer = IsTold whole_trace trace_before sc answer
+
+-- ---- what is known of a run before it is traced
+
+-- these are all steps of a run of which all is told, and so it has ended
+pub record HasSteps (sc : Scenario) (steps : List Step) (ending : Ending) : Type 0 where
+  pub rested : IsRested sc
+  pub steps_are : steps ≡ all_steps sc
+  pub ending_is : ending ≡ ending_of sc (final sc).state
+
+abbrev pub IsRehearsed : Scenario → Rehearsed → Type 0
+IsRehearsed sc (rehearsed.AtRest steps ending) = HasSteps sc steps ending
+IsRehearsed sc (rehearsed.Stopped refused) = first_refused sc ≡ Some refused
 
 -- what comes of the large scenario
 abbrev pub IsCounted : ℕ → Answer → Type 0
 IsCounted count (answer.Text text) = IsCountedTo count text.0
-IsCounted count (answer.Refused line) = ⊥
+IsCounted count (answer.Refused text line) = ⊥
 IsCounted count answer.NoMemory = Unit {0}
 IsCounted count answer.ReadFault = ⊥
 
 -- of an input that is refused so: its line
 abbrev pub IsRefusal : ScenarioError → Answer → Type 0
-IsRefusal why (answer.Refused line) = line.0 ≡ refusal_line why
+IsRefusal why (answer.Refused text line) = (text.0 ≡ []) × (line.0 ≡ refusal_line why)
 IsRefusal why answer.NoMemory = Unit {0}
 IsRefusal why _ = ⊥
+
+-- of an input that is not read as a scenario
+abbrev pub IsUnread : Option (List ℕ) → Option (List ℕ) → ℕ → ℕ → Answer → Type 0
+IsUnread old new faults faults' (answer.Text text) = ⊥
+IsUnread old new faults faults' (answer.Refused text line) = RefusesInput old new text.0 line.0
+IsUnread old new faults faults' answer.ReadFault = FailsToRead old new faults faults'
+IsUnread old new faults faults' answer.NoMemory = Unit {0}
+
+-- of an input that is: the scenario, which is valid
+pub record IsInput (old new : Option (List ℕ)) (sc : Scenario) : Type 0 where
+  pub bytes : List ℕ
+  pub taken : TakesAll old new bytes
+  pub reads : Reads bytes sc
+  pub valid : is_valid sc ≡ true
