@@ -8,6 +8,7 @@ mod rounds;
 mod runs;
 mod said;
 mod spelling;
+mod traces;
 mod verdicts;
 
 use spelling::unescaped;
@@ -15,6 +16,7 @@ use std::alloc::Global;
 use std::fs::{self, Files};
 use std::io;
 use tp_types::NoMemory;
+use traces::Law;
 
 /// What a case is.
 #[derive(Clone, Copy)]
@@ -31,6 +33,8 @@ enum Kind {
     Locks,
     /// A text of a policy, and its printed form or why it is none.
     Policy,
+    /// A scenario that comes to rest, of whose trace a law is to hold.
+    Traced(Law),
 }
 
 /// What stands between two cases.
@@ -46,7 +50,7 @@ fn answer(alloc: Global, kind: Kind, given: &str) -> Result<Vec<u8>, NoMemory> {
     match kind {
         Kind::Reading => readings::answer(alloc, given),
         Kind::Policy => policies::answer(alloc, given),
-        _ => runs::answer(alloc, given),
+        _ => runs::answer(alloc, "run", given),
     }
 }
 
@@ -74,11 +78,21 @@ fn fault<'a, R: Files + AllocGlobal>(
         Kind::Run => runs::fault(rt, folder, case),
         Kind::Round => rounds::fault(rt.alloc(), case),
         Kind::Locks => locks::fault(rt.alloc(), case),
+        Kind::Traced(law) => Ok(traces::fault(rt, folder, law, case)),
         _ => fault_of_answer(rt.alloc(), kind, case),
     }
 }
 
-/// Tries each case of a table but lines that are empty or comments, and says which failed, and how many.
+/// Whether a line of a table is a case: it is not empty, no comment, and fit for what is tried.
+fn is_case(kind: Kind, line: &str) -> bool {
+    let is_fit = match kind {
+        Kind::Traced(_) => traces::is_at_rest(line),
+        _ => true,
+    };
+    is_fit && !line.is_empty() && !line.starts_with('#')
+}
+
+/// Tries each case of a table, and says which failed, and how many.
 fn try_cases(
     rt: &HostRuntime,
     folder: &str,
@@ -91,7 +105,7 @@ fn try_cases(
     let mut number: u64 = 0;
     for case in table.split(separator(kind)) {
         number = number.saturating_add(1);
-        if case.is_empty() || case.starts_with('#') {
+        if !is_case(kind, case) {
             continue;
         }
         match fault(rt, folder, kind, case).unwrap_or(Some("no memory")) {
@@ -105,8 +119,9 @@ fn try_cases(
     println!(rt; "{name}: {passed} passed, {failed} failed")
 }
 
-fn try_table(rt: &HostRuntime, folder: &str, name: &str, kind: Kind) -> io::Result<()> {
-    let table = fs::read_to_string(rt, format!(in rt.alloc(); "{folder}/{name}.txt")?)?;
+/// Tries a table under a name.
+fn try_table(rt: &HostRuntime, folder: &str, name: &str, file: &str, kind: Kind) -> io::Result<()> {
+    let table = fs::read_to_string(rt, format!(in rt.alloc(); "{folder}/{file}.txt")?)?;
     try_cases(rt, folder, name, kind, table.as_str())
 }
 
@@ -120,17 +135,25 @@ fn folder<R: Files + AllocGlobal>(rt: &R) -> &'static str {
 
 fn main(rt: HostRuntime) -> io::Result<()> {
     let folder = folder(&rt);
-    for (name, kind) in [
-        ("runs", Kind::Run),
-        ("evaluations", Kind::Evaluation),
-        ("readings", Kind::Reading),
-        ("rounds/hand", Kind::Round),
-        ("rounds/view", Kind::Round),
-        ("rounds/levels", Kind::Round),
-        ("locks", Kind::Locks),
-        ("policies", Kind::Policy),
+    for (name, file, kind) in [
+        ("runs", "runs", Kind::Run),
+        ("evaluations", "evaluations", Kind::Evaluation),
+        ("readings", "readings", Kind::Reading),
+        ("rounds/hand", "rounds/hand", Kind::Round),
+        ("rounds/view", "rounds/view", Kind::Round),
+        ("rounds/levels", "rounds/levels", Kind::Round),
+        ("locks", "locks", Kind::Locks),
+        ("policies", "policies", Kind::Policy),
+        ("runs told", "runs", Kind::Traced(Law::Told)),
+        ("runs replayed", "runs", Kind::Traced(Law::Replayed)),
+        ("evaluations told", "evaluations", Kind::Traced(Law::Told)),
+        (
+            "evaluations replayed",
+            "evaluations",
+            Kind::Traced(Law::Replayed),
+        ),
     ] {
-        try_table(&rt, folder, name, kind)?;
+        try_table(&rt, folder, name, file, kind)?;
     }
     Ok(())
 }

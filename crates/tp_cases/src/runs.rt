@@ -48,10 +48,10 @@ fn called(alloc: Global, words: &[&str], input: Vec<u8>) -> Result<Vec<u8>, Allo
     call(alloc, words.as_slice(), input)
 }
 
-/// The report of a scenario, or how else its run ends.
-pub fn answer(alloc: Global, scenario: &str) -> Result<Vec<u8>, NoMemory> {
+/// What a command makes of a scenario, or how else its call ends.
+pub fn answer(alloc: Global, command: &str, scenario: &str) -> Result<Vec<u8>, NoMemory> {
     let input = Vec::from_slice(alloc, scenario.as_bytes())?;
-    Ok(called(alloc, &["run"], input)?)
+    Ok(called(alloc, &[command], input)?)
 }
 
 fn file<R: Files + AllocGlobal>(
@@ -75,7 +75,7 @@ fn input<R: Files + AllocGlobal>(
     Ok(input)
 }
 
-/// How a case is to end: with a whole report, or with a line that says why there is none.
+/// How a case is to end: with a whole text, or with a line that says why there is none, and what stands before it.
 fn wanted<R: Files + AllocGlobal>(
     rt: &R,
     folder: &str,
@@ -86,8 +86,9 @@ fn wanted<R: Files + AllocGlobal>(
         return file(rt, folder, name, "out");
     }
     let notes = file(rt, folder, name, "err")?;
+    let out = file(rt, folder, name, "out").unwrap_or(Vec::new(rt.alloc()));
     let status = status.parse::<u8>().unwrap_or(u8::MAX);
-    Ok(ending(rt.alloc(), status, "".as_bytes(), notes.as_slice())?)
+    Ok(ending(rt.alloc(), status, out.as_slice(), notes.as_slice())?)
 }
 
 /// Whether the case of this name ends as it is to: NAME, or NAME:LENGTH.
