@@ -152,7 +152,7 @@ fn keeps_up(taken: &Step) -> bool
 
 /// Where timers are looked for after a step of a scenario.
 #[tactic(auto, using(crate::proofs::BoundLemmas::few_txns_valid))]
-fn cursor_after(scenario: &Scenario, taken: &Step, cursor: u32) -> u32
+pub fn cursor_after(scenario: &Scenario, taken: &Step, cursor: u32) -> u32
     requires valid { valid.is_valid scenario.now ≡ true }
     requires exists { IsStepOf scenario.now taken.now }
     ensures { result ≡ automatic.cursor_after taken.now cursor }

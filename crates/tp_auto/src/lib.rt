@@ -18,4 +18,4 @@
 mod auto;
 pub mod laws;
 
-pub use auto::{drain, next};
+pub use auto::{cursor_after, drain, next};

@@ -18,7 +18,6 @@ use Rattle.tp_auto.proofs.GoingLemmas.{Going, going_first, next_goes}
 use Rattle.tp_auto.proofs.NextLemmas.{quiet_finished}
 use Rattle.tp_auto.proofs.StandsLemmas.{stands_after}
 use Rattle.tp_top.proofs.ListedRun.{listed_exist, none_refused}
-use Rattle.tp_trace.specs.Blocks.{AreAllowed}
 
 -- mails are only added
 pub more_mails : (w : State) (taken : Step) (move : Move) → length w.mails ≤ length (state_after w taken move).mails
@@ -30,6 +29,11 @@ more_mails w taken move = omega (arith, length-append w.mails (mails_of (length 
 record IsDone (sc : Scenario) (m : Machine) (taken : Step) : Type 0 where
   pub exists : IsStepOf sc taken
   pub allowed : refusal m.state taken ≡ None
+
+-- the machine refuses none of the steps, done one after another
+abbrev AreAllowed : Scenario → Machine → List Step → Type 0
+AreAllowed sc m [] = Unit {0}
+AreAllowed sc m (taken ∷ others) = (refusal m.state taken ≡ None) × AreAllowed sc (machine_after sc m taken) others
 
 -- the steps name what exists, none is refused, and they are those that the machine then has
 pub record AreDone (sc : Scenario) (m : Machine) (steps : List Step) : Type 0 where

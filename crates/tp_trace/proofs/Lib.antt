@@ -1,5 +1,4 @@
 pub mod BlockLemmas
 pub mod GrowLemmas
 pub mod LineLemmas
-pub mod RunLemmas
 pub mod ToldLemmas

@@ -2,7 +2,7 @@
 use Rattle.std.specs.Prelude.{◌≡◌, ℕ, List, [], ◌∷◌, ◌++◌, length, map, drop, slice_get, Bool, true, false, nat_lt, Option, Some, None, codes, decimal, option_map, if◌then◌else◌}
 use Rattle.std.specs.List.{flat_map}
 use Rattle.tp_machine.specs.Logs.{records_of}
-use Rattle.tp_machine.specs.Machine.{Machine, State, after, after_step, ending_of, is_down, machine_after, opening, refusal}
+use Rattle.tp_machine.specs.Machine.{Machine, State, after, after_step, ending_of, is_down, opening}
 use Rattle.tp_machine.specs.Views.{coordinator_at, cut_off, server_at}
 use Rattle.tp_model.specs.Ids.{same_name}
 use Rattle.tp_model.specs.Words.{Actor, Ending, Mail, Record, Scenario, ServerId, Step, TxnId}
@@ -136,12 +136,6 @@ blocks sc listed m [] = []
 blocks sc listed m (taken ∷ others) =
     block sc (nat_lt (length m.state.steps) listed) m taken
     ++ blocks sc listed (after_step sc m taken) others
-
--- the machine refuses none of the steps, done one after another
-abbrev pub AreAllowed : Scenario → Machine → List Step → Type 0
-AreAllowed sc m [] = Unit {0}
-AreAllowed sc m (taken ∷ others) =
-    (refusal m.state taken ≡ None) × AreAllowed sc (machine_after sc m taken) others
 
 -- ---- a trace
 

@@ -6,7 +6,6 @@
 //!   `does`, `text`); where it is refused nothing is put (`refused`, `nothing`)
 //! - The words of a step, of a mail and of a record are exactly the defined ones (`put_step_text`, `put_mail`,
 //!   `put_record`)
-//! - The trace of steps that are allowed is the first line and the blocks of these steps, in order (`trace`)
 //! - The report of a run is in its trace: in the lines of its steps, and the last lines (`traces_tell_reports`)
 //!
 //! Nothing of it is kept between two steps: before a step the ends of lists are taken, and what is seen of the one
@@ -19,7 +18,6 @@ mod bodies;
 mod lines;
 mod phases;
 mod records;
-mod runs;
 mod seen;
 mod steps;
 mod told;
@@ -30,7 +28,6 @@ pub use blocks::{Noted, put_step};
 pub use bodies::put_mail;
 pub use lines::Kind;
 pub use records::put_record;
-pub use runs::trace;
 pub use seen::Seen;
 pub use steps::put_step_text;
 pub use told::traces_tell_reports;

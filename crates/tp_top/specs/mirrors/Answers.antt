@@ -1,5 +1,5 @@
 -- What the helpers of the answer to an input promise to one another.
-use Rattle.std.specs.Prelude.{◌≡◌, List, [], ℕ, true, false, Option, Some, None}
+use Rattle.std.specs.Prelude.{◌≡◌, List, [], ◌++◌, ℕ, take, true, false, Option, Some, None}
 use Rattle.tp_model.specs.Valid.{is_valid}
 use Rattle.tp_model.specs.Words.{Ending, Scenario, Step}
 use Rattle.tp_runs.specs.Laws.{HasAllCommits, HasAllEnds, IsTrustedState}
@@ -11,10 +11,9 @@ use Rattle.tp_top.specs.declared.answer.Answer.TheVariants as answer
 use Rattle.tp_top.specs.declared.ended.RunEnd.{RunEnd}
 use Rattle.tp_top.specs.declared.ended.RunEnd.TheVariants as end
 use Rattle.tp_top.specs.declared.listed.StepRefusal.{StepRefusal}
-use Rattle.tp_top.specs.declared.traced.Rehearsed.{Rehearsed}
-use Rattle.tp_top.specs.declared.traced.Rehearsed.TheVariants as rehearsed
 use Rattle.tp_auto.specs.Auto.{is_quiet, world_after}
 use Rattle.tp_bulk.specs.Bulk.{scenario_of}
+use Rattle.tp_trace.specs.Blocks.{trace_text}
 use Rattle.tp_top.specs.Listed.{refused_from}
 use Rattle.tp_top.specs.Refusals.{refusal_line, step_line}
 use Rattle.tp_top.specs.Input.{Reads, TakesAll}
@@ -92,17 +91,17 @@ IsReported sc answer = IsTold report_of nothing_before sc answer
 abbrev pub IsTraced : Scenario → Answer → Type 0
 IsTraced sc answer = IsTold whole_trace trace_before sc answer
 
--- ---- what is known of a run before it is traced
+-- ---- a trace
 
--- these are all steps of a run of which all is told, and so it has ended
-pub record HasSteps (sc : Scenario) (steps : List Step) (ending : Ending) : Type 0 where
-  pub rested : IsRested sc
-  pub steps_are : steps ≡ all_steps sc
-  pub ending_is : ending ≡ ending_of sc (final sc).state
+-- the text is the trace of the steps that the world has done
+abbrev pub Tells : WorldView → List ℕ → Type 0
+Tells world text = text ≡ trace_text world.scenario world.machine.state.steps
 
-abbrev pub IsRehearsed : Scenario → Rehearsed → Type 0
-IsRehearsed sc (rehearsed.AtRest steps ending) = HasSteps sc steps ending
-IsRehearsed sc (rehearsed.Stopped refused) = first_refused sc ≡ Some refused
+-- where a step is refused just the steps before it were done
+abbrev pub StopsBefore : WorldView → WorldView → List Step → Option StepRefusal → Type 0
+StopsBefore old new steps None = Unit {0}
+StopsBefore old new steps (Some refused) =
+    new.machine.state.steps ≡ old.machine.state.steps ++ take refused.at steps
 
 -- what comes of the large scenario
 abbrev pub IsCounted : ℕ → Answer → Type 0
