@@ -22,7 +22,7 @@ fn lone(ring: usize) -> Pair
 fn ends(alloc: Global, count: usize) -> Result<List<Pair>, NoMemory>
     ensures { IfOk result (λ made. made ≡ room.ends count) }
 {
-    let mut made = List::new(alloc);
+    let mut made = List::from_vec(Vec::with_capacity(alloc, count)?);
     for ring in 0..count {
         made.push(lone(ring))?;
     }
