@@ -11,7 +11,7 @@ use tp_types::{Item, List, NoMemory, Scenario, ServerId, TryClone, Version};
 pub fn bounds_of(alloc: Global, items: &[Item]) -> Result<List<Bounds>, NoMemory>
     ensures { IfOk result (λ made. made ≡ map rule.bounds_of items.now) }
 {
-    let mut made = List::new(alloc);
+    let mut made = List::from_vec(Vec::with_capacity(alloc, items.len())?);
     for item in items {
         let bounds = Bounds {
             min: item.min,
@@ -26,7 +26,7 @@ pub fn bounds_of(alloc: Global, items: &[Item]) -> Result<List<Bounds>, NoMemory
 pub fn opening_values(alloc: Global, items: &[Item]) -> Result<List<i128>, NoMemory>
     ensures { IfOk result (λ made. made ≡ map opening_value items.now) }
 {
-    let mut made = List::new(alloc);
+    let mut made = List::from_vec(Vec::with_capacity(alloc, items.len())?);
     for item in items {
         made.push(i128::from(item.value))?;
     }
@@ -51,7 +51,7 @@ pub fn known_at_first(
 pub fn no_writes(alloc: Global, count: usize) -> Result<List<List<TentativeWrite>>, NoMemory>
     ensures { IfOk result (λ made. made ≡ replicate count []) }
 {
-    let mut made = List::new(alloc);
+    let mut made = List::from_vec(Vec::with_capacity(alloc, count)?);
     for _txn in 0..count {
         made.push(List::new(alloc))?;
     }
