@@ -28,12 +28,20 @@ fn is_global_query(scenario: &Scenario, txn: &Transaction, query: &Query) -> boo
     }
 }
 
-/// Whether a transaction reads the newest versions from the master: one of its queries is on an item whose administrator has the
-/// level global for it.
-pub fn reads_master(scenario: &Scenario, txn: &Transaction) -> bool
+fn has_global_query(scenario: &Scenario, txn: &Transaction) -> bool
     ensures { result ≡ levels.reads_master scenario.now txn.now }
 {
     txn.queries
         .iter()
         .any(|query| is_global_query(scenario, txn, query))
+}
+
+/// Whether a transaction reads the newest versions from the master: one of its queries is on an item whose administrator has the
+/// level global for it.
+#[tactic(auto, using(crate::proofs::LevelLemmas::reads_none))]
+pub fn reads_master(scenario: &Scenario, txn: &Transaction) -> bool
+    ensures { result ≡ levels.reads_master scenario.now txn.now }
+{
+    // where it asks for no global level no query needs a look
+    is_global(txn.level) && has_global_query(scenario, txn)
 }
