@@ -155,9 +155,9 @@ impl<T: Drop> List<T> {
     pub fn of_one(alloc: Global, value: T) -> Result<List<T>, NoMemory>
         ensures { IfOk result (λ made. made ≡ value ∷ []) }
     {
-        let mut made = List::new(alloc);
-        made.push(value)?;
-        Ok(made)
+        let mut items = Vec::with_capacity(alloc, 1)?;
+        items.push(value)?;
+        Ok(List { items })
     }
 
     /// Keeps the first members, at most so many.
@@ -170,7 +170,7 @@ impl<T: Drop> List<T> {
 
 impl<T: TryClone + Drop> TryClone for List<T> {
     fn try_clone(&self, alloc: Global) -> Result<Self, NoMemory> {
-        let mut made = List::new(alloc);
+        let mut made = List::from_vec(Vec::with_capacity(alloc, self.len())?);
         for item in self.as_slice() {
             made.push(item.try_clone(alloc)?)?;
         }

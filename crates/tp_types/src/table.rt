@@ -9,7 +9,7 @@ use std::alloc::Global;
 pub fn none_for_each<T: Drop>(alloc: Global, count: usize) -> Result<List<Option<T>>, NoMemory>
     ensures { IfOk result (λ made. made ≡ replicate count None) }
 {
-    let mut made = List::new(alloc);
+    let mut made = List::from_vec(Vec::with_capacity(alloc, count)?);
     for _place in 0..count {
         made.push(None)?;
     }
