@@ -1,5 +1,5 @@
 -- Bytes have at most one answer.
-use Rattle.std.proofs.Common.{◌≡◌, ◌⊎◌, inl, inr, ℕ, List, true, Some, None, Result, Ok, Err, sym, ap, ◌∙◌, arith}
+use Rattle.std.proofs.Common.{◌≡◌, ◌⊎◌, inl, inr, ℕ, List, true, Some, Result, Ok, Err, sym, ap, ◌∙◌, arith}
 use Rattle.std.specs.Prelude.{IfOk}
 use Rattle.serde_json.specs.Data.{Data}
 use Rattle.serde_json.specs.Read.{read}

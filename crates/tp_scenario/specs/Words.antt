@@ -1,7 +1,5 @@
 -- Texts of words: one or more spaces stand between two words, and none at the ends.
 use Rattle.std.specs.Prelude.{ℕ, suc, ◌==◌, List, [], ◌∷◌, Bool, true, false, not, if◌then◌else◌, Option, Some, None}
-use Rattle.tp_model.specs.Queries.{only}
-use Rattle.tp_model.specs.Limits.{is_empty}
 use Rattle.tp_types.specs.Spelling.{is_name}
 
 abbrev pub is_space : ℕ → Bool

@@ -6,3 +6,4 @@ pub mod Entries
 pub mod Refusing
 pub mod Places
 pub mod Parts
+pub mod Elements

@@ -1,6 +1,6 @@
 //! Administrators and their policies.
 ghost use Rattle.std.specs.Prelude.{◌≡◌, ◌≤◌, ◌⊎◌, ◌++◌, ◌∷◌, [], length, map, option_map, IfOk};
-ghost use Rattle.serde_json.specs.View.{view, items_view};
+ghost use Rattle.tp_json.specs.View.{view, items_view};
 ghost use Rattle.tp_policy_text.specs.Parses.{IsOutOfMemory};
 ghost use Rattle.tp_scenario.specs.Admins as admins;
 ghost use Rattle.tp_scenario.specs.Policies.{policy_answer};
@@ -12,9 +12,9 @@ use crate::fault::{WalkError, policy_fault_at};
 use crate::names::Names;
 use crate::object::{field, object_at};
 use crate::path::{Key, Path};
-use crate::values::{count_or, items_at, new_name_at, text_at};
-use serde_json::Value;
+use crate::values::{array_of, count_or, new_name_at, test_items, text_at};
 use std::alloc::Global;
+use tp_json::Json;
 use tp_model::{ADMINS_MAX, VERSIONS_MAX};
 use tp_policy_text::{ParseError, parse};
 use tp_types::{Admin, List, Policy, Version, both};
@@ -37,14 +37,14 @@ fn policy_said(alloc: Global, path: Path, text: &[u8]) -> Result<Policy, WalkErr
 }
 
 #[tactic(auto, unfolding(crate::specs::Admins::policy_text_at))]
-fn policy_at(alloc: Global, path: Path, value: &Value) -> Result<Policy, WalkError>
+fn policy_at(alloc: Global, path: Path, value: &Json) -> Result<Policy, WalkError>
     ensures { Gives result (admins.policy_text_at path (view value.now)) }
 {
     let text = text_at(path, Some(value))?;
     policy_said(alloc, path, text)
 }
 
-fn each_policy(alloc: Global, at: usize, values: &[Value]) -> Result<List<Policy>, WalkError>
+fn each_policy(alloc: Global, at: usize, values: &[Json]) -> Result<List<Policy>, WalkError>
     ensures value { Gives result (each (admins.policy_in at) [] (items_view values.now)) }
     ensures few { IfOk result (λ made. length made ≤ length values.now) }
 {
@@ -57,18 +57,21 @@ fn each_policy(alloc: Global, at: usize, values: &[Value]) -> Result<List<Policy
 }
 
 #[tactic(auto, unfolding(crate::specs::Admins::policies_at))]
-fn policies_at(alloc: Global, at: usize, value: Option<&Value>) -> Result<List<Policy>, WalkError>
+fn policies_at(alloc: Global, at: usize, value: Option<&Json>) -> Result<List<Policy>, WalkError>
     ensures value { Gives result
         (admins.policies_at at (option_map (λ v. view v.now) value.entry)) }
     ensures few { IfOk result (λ made. length made ≤ 64) }
 {
-    let texts = items_at(
+    test_items(
         Path::Field(Key::Admins, at, Key::Policies),
         1,
         VERSIONS_MAX,
         value,
     )?;
-    each_policy(alloc, at, texts)
+    match array_of(value) {
+        None => Ok(List::new(alloc)),
+        Some(texts) => each_policy(alloc, at, texts),
+    }
 }
 
 #[tactic(auto, unfolding(crate::specs::Admins::admin_at))]
@@ -76,7 +79,7 @@ fn admin_at<'a>(
     alloc: Global,
     names: &mut Names<'a>,
     at: usize,
-    value: &'a Value,
+    value: &Json<'a>,
 ) -> Result<Admin, WalkError>
     ensures value { Gives result (admins.admin_at names.old at (view value.now)) }
     ensures named { IfOk result (λ admin. names.new ≡ names.old ++ admin.name ∷ []) }
@@ -102,11 +105,7 @@ fn admin_at<'a>(
 }
 
 /// The policies of an administrator, and the version of them that is newest at the start.
-fn library_at(
-    alloc: Global,
-    at: usize,
-    fields: &Value,
-) -> Result<(List<Policy>, Version), WalkError>
+fn library_at(alloc: Global, at: usize, fields: &Json) -> Result<(List<Policy>, Version), WalkError>
     ensures { Gives result (parts.library_at at (view fields.now)) }
 {
     let library = policies_at(alloc, at, field(fields, Key::Policies))?;
@@ -116,7 +115,7 @@ fn library_at(
 
 /// The opening version, which is the first where none is told.
 #[tactic(auto, unfolding(crate::specs::Admins::opening_at))]
-fn opening_at(at: usize, count: usize, value: Option<&Value>) -> Result<Version, WalkError>
+fn opening_at(at: usize, count: usize, value: Option<&Json>) -> Result<Version, WalkError>
     requires { count ≤ 64 }
     ensures { Gives result (admins.opening_at at count (option_map (λ v. view v.now) value.entry)) }
 {
@@ -128,7 +127,7 @@ fn opening_at(at: usize, count: usize, value: Option<&Value>) -> Result<Version,
 fn each_admin<'a>(
     alloc: Global,
     names: &mut Names<'a>,
-    values: &'a [Value],
+    values: &[Json<'a>],
 ) -> Result<List<Admin>, WalkError>
     requires { names.old ≡ [] }
     ensures value { Gives result (each admins.admin_in [] (items_view values.now)) }
@@ -146,12 +145,15 @@ fn each_admin<'a>(
 pub(crate) fn admins_at<'a>(
     alloc: Global,
     names: &mut Names<'a>,
-    value: Option<&'a Value>,
+    value: Option<&Json<'a>>,
 ) -> Result<List<Admin>, WalkError>
     requires { names.old ≡ [] }
     ensures value { Gives result (admins.admins_at (option_map (λ v. view v.now) value.entry)) }
     ensures named { IfOk result (λ made. names.new ≡ map admins.admin_name made) }
 {
-    let values = items_at(Path::Top(Key::Admins), 1, ADMINS_MAX, value)?;
-    each_admin(alloc, names, values)
+    test_items(Path::Top(Key::Admins), 1, ADMINS_MAX, value)?;
+    match array_of(value) {
+        None => Ok(List::new(alloc)),
+        Some(values) => each_admin(alloc, names, values),
+    }
 }

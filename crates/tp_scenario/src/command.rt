@@ -1,6 +1,6 @@
 //! The text of a step.
 ghost use Rattle.std.specs.Prelude.{◌≡◌, option_map};
-ghost use Rattle.serde_json.specs.View.{view};
+ghost use Rattle.tp_json.specs.View.{view};
 ghost use Rattle.tp_scenario.specs.Steps as steps;
 ghost use Rattle.tp_scenario.specs.Steps.{by_number, of_name};
 ghost use Rattle.tp_scenario.specs.mirrors.Commands.{command};
@@ -10,7 +10,7 @@ use crate::fault::{WalkError, shape_at};
 use crate::path::Path;
 use crate::values::text_at;
 use crate::words::Words;
-use serde_json::Value;
+use tp_json::Json;
 use tp_types::{is_name, number_of};
 
 /// A verb that a name follows.
@@ -242,7 +242,7 @@ fn command_of(text: &[u8]) -> Option<Command<'_>>
 
 /// The step that a value spells.
 #[tactic(auto, unfolding(crate::specs::Steps::command_at))]
-pub(crate) fn command_at(path: Path, value: &Value) -> Result<Command<'_>, WalkError>
+pub(crate) fn command_at<'a>(path: Path, value: &Json<'a>) -> Result<Command<'a>, WalkError>
     ensures { GivesAs result command (steps.command_at path (view value.now)) }
 {
     let text = text_at(path, Some(value))?;

@@ -1,6 +1,6 @@
 //! Credentials.
 ghost use Rattle.std.specs.Prelude.{◌≡◌, ◌++◌, ◌∷◌, [], map, option_map, IfOk};
-ghost use Rattle.serde_json.specs.View.{view, items_view};
+ghost use Rattle.tp_json.specs.View.{view, items_view};
 ghost use Rattle.tp_scenario.specs.Creds as creds;
 ghost use Rattle.tp_scenario.specs.declared.path.Key.TheVariants as Key;
 ghost use Rattle.tp_scenario.specs.declared.path.Path.TheVariants as Path;
@@ -13,9 +13,9 @@ use crate::fault::WalkError;
 use crate::names::Names;
 use crate::object::{field, object_at};
 use crate::path::{Key, Path};
-use crate::values::{count_or, items_or, name_at, new_name_at, whole_in};
-use serde_json::Value as Json;
+use crate::values::{array_of, count_or, name_at, new_name_at, test_items_or, whole_in};
 use std::alloc::Global;
+use tp_json::Json;
 use tp_model::{CLOCK_MAX, CREDS_MAX, NUMBER_MAX};
 use tp_types::{Credential, List, Name, Value, both};
 
@@ -71,7 +71,7 @@ fn cred_at<'a>(
     alloc: Global,
     names: &mut Names<'a>,
     at: usize,
-    value: &'a Json,
+    value: &Json<'a>,
 ) -> Result<Credential, WalkError>
     ensures value { Gives result (creds.cred_at names.old at (view value.now)) }
     ensures named { IfOk result (λ cred. names.new ≡ names.old ++ cred.name ∷ []) }
@@ -131,7 +131,7 @@ fn interval_at(at: usize, fields: &Json) -> Result<(u64, u64), WalkError>
 fn each_cred<'a>(
     alloc: Global,
     names: &mut Names<'a>,
-    values: &'a [Json],
+    values: &[Json<'a>],
 ) -> Result<List<Credential>, WalkError>
     requires { names.old ≡ [] }
     ensures value { Gives result (each creds.cred_in [] (items_view values.now)) }
@@ -149,12 +149,15 @@ fn each_cred<'a>(
 pub(crate) fn creds_at<'a>(
     alloc: Global,
     names: &mut Names<'a>,
-    value: Option<&'a Json>,
+    value: Option<&Json<'a>>,
 ) -> Result<List<Credential>, WalkError>
     requires { names.old ≡ [] }
     ensures value { Gives result (creds.creds_at (option_map (λ v. view v.now) value.entry)) }
     ensures named { IfOk result (λ made. names.new ≡ map creds.cred_name made) }
 {
-    let values = items_or(Path::Top(Key::Credentials), CREDS_MAX, value)?;
-    each_cred(alloc, names, values)
+    test_items_or(Path::Top(Key::Credentials), CREDS_MAX, value)?;
+    match array_of(value) {
+        None => Ok(List::new(alloc)),
+        Some(values) => each_cred(alloc, names, values),
+    }
 }

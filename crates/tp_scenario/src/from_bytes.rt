@@ -1,7 +1,7 @@
 //! From bytes to a scenario.
 ghost use Rattle.std.specs.Prelude.{◌≡◌, ◌⊎◌, ◌<◌, length, true, Result, IfOk, IfErr, IsErrOf, IsUtf8};
 ghost use Rattle.serde_json.specs.Read.{read as read_json};
-ghost use Rattle.serde_json.specs.View.{view};
+ghost use Rattle.tp_json.specs.View.{view};
 ghost use Rattle.tp_types.specs.declared.scenario.Scenario.{Scenario};
 ghost use Rattle.tp_model.specs.Valid.{is_valid};
 ghost use Rattle.tp_scenario.specs.declared.from_bytes.ScenarioError.{ScenarioError};
@@ -14,8 +14,9 @@ ghost use Rattle.tp_scenario.specs.mirrors.Refusing.{IsRefusal, IsTextError};
 use crate::fault::{Fault, Kind, WalkError};
 use crate::path::site_text;
 use crate::whole::walked;
-use serde_json::Value;
+use json::Scratch;
 use std::alloc::Global;
+use tp_json::{Json, JsonError};
 use tp_policy_text::ParseError;
 use tp_types::{NoMemory, Scenario, Text};
 
@@ -51,19 +52,18 @@ impl From<NoMemory> for ScenarioError {
     }
 }
 
-fn json_of(alloc: Global, bytes: &[u8]) -> Result<Value, ScenarioError>
+fn json_of<'a>(
+    alloc: Global,
+    bytes: &'a [u8],
+    scratch: &'a mut Scratch,
+) -> Result<Json<'a>, ScenarioError>
     ensures ok { IfOk result (λ v. IsUtf8 bytes.now × (read_json bytes.now ≡ Some (view v))) }
     ensures err { IfErr result (IsTextError bytes.now) }
 {
-    match Value::from_slice(alloc, bytes) {
+    match tp_json::read(alloc, bytes, scratch) {
         Ok(value) => Ok(value),
-        Err(error) => {
-            if error.is_memory() {
-                Err(ScenarioError::NoMemory)
-            } else {
-                Err(ScenarioError::BadJson)
-            }
-        }
+        Err(JsonError::BadText) => Err(ScenarioError::BadJson),
+        Err(JsonError::NoMemory) => Err(ScenarioError::NoMemory),
     }
 }
 
@@ -87,7 +87,7 @@ fn refused(alloc: Global, fault: &Fault) -> ScenarioError
     }
 }
 
-fn scenario_of(alloc: Global, value: &Value) -> Result<Scenario, ScenarioError>
+fn scenario_of(alloc: Global, value: &Json) -> Result<Scenario, ScenarioError>
     ensures { IsOutOfMemory result ⊎ (result ≡ reads.answer_to (view value.now)) }
 {
     match walked(alloc, value) {
@@ -111,7 +111,8 @@ pub fn read(alloc: Global, bytes: &[u8]) -> Result<Scenario, ScenarioError>
     if bytes.len() > LENGTH_MAX {
         return Err(ScenarioError::TooLong);
     }
-    let value = json_of(alloc, bytes)?;
+    let mut scratch = Scratch::new(alloc);
+    let value = json_of(alloc, bytes, &mut scratch)?;
     scenario_of(alloc, &value)
 }
 

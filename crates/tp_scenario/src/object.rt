@@ -1,25 +1,25 @@
 //! Objects, and their values.
-ghost use Rattle.std.specs.Prelude.{◌≡◌, ◌++◌, option_map, is_some, string_bytes};
-ghost use Rattle.std.specs.BTreeMap.{keys};
+ghost use Rattle.std.specs.Prelude.{◌≡◌, ◌++◌, option_map, is_some};
 ghost use Rattle.serde_json.specs.Find.{as_object};
 ghost use Rattle.std.specs.List.{list_all, list_any};
-ghost use Rattle.serde_json.specs.View.{view, members_view};
+ghost use Rattle.tp_json.specs.View.{view, members_view};
 ghost use Rattle.tp_scenario.specs.Values as values;
+ghost use Rattle.tp_scenario.specs.mirrors.Entries.{Member};
 ghost use Rattle.tp_scenario.specs.mirrors.Gives.{GivesAs};
 
 use crate::fault::{WalkError, shape_at};
 use crate::path::{Key, Path};
-use serde_json::{Map, Value};
+use tp_json::Json;
 
 /// The value at a key of an object.
 #[tactic(auto, unfolding(crate::specs::Values::field))]
-pub(crate) fn field(value: &Value, key: Key) -> Option<&Value>
+pub(crate) fn field<'v, 'a>(value: &'v Json<'a>, key: Key) -> Option<&'v Json<'a>>
     ensures { option_map (λ v. view v.now) result ≡ values.field key (view value.now) }
 {
     value.get(key.text())
 }
 
-fn has(value: &Value, key: Key) -> bool
+fn has(value: &Json, key: Key) -> bool
     ensures { result ≡ values.has (view value.now) key }
 {
     field(value, key).is_some()
@@ -37,7 +37,7 @@ fn is_key(keys: &[Key], text: &str) -> bool
     keys.iter().any(|key| is_spelled(*key, text))
 }
 
-fn has_all(value: &Value, keys: &[Key]) -> bool
+fn has_all(value: &Json, keys: &[Key]) -> bool
     ensures { result ≡ list_all (values.has (view value.now)) keys.now }
 {
     keys.iter().all(|key| has(value, *key))
@@ -50,23 +50,22 @@ fn has_key_of(needed: &[Key], others: &[Key], text: &str) -> bool
     is_key(needed, text) || is_key(others, text)
 }
 
-fn are_keys(needed: &[Key], others: &[Key], members: &Map<String, Value>) -> bool
+fn are_keys(needed: &[Key], others: &[Key], members: &[(&str, Json)]) -> bool
     ensures { result ≡ list_all
-        (λ text. values.is_key (needed.now ++ others.now) (string_bytes text)) (keys members.now) }
+        (λ (member : Member). values.is_key (needed.now ++ others.now) member.0.now) members.now }
 {
     members
-        .keys()
-        .all(|key| has_key_of(needed, others, key.as_str()))
+        .iter()
+        .all(|member| has_key_of(needed, others, member.0))
 }
 
-fn have_keys(needed: &[Key], others: &[Key], members: &Map<String, Value>) -> bool
-    ensures { result ≡ values.have_keys (needed.now ++ others.now)
-        (members_view members.now.entries) }
+fn have_keys(needed: &[Key], others: &[Key], members: &[(&str, Json)]) -> bool
+    ensures { result ≡ values.have_keys (needed.now ++ others.now) (members_view members.now) }
 {
     are_keys(needed, others, members)
 }
 
-fn has_only(needed: &[Key], others: &[Key], value: &Value) -> bool
+fn has_only(needed: &[Key], others: &[Key], value: &Json) -> bool
     ensures { result ≡ values.has_only (needed.now ++ others.now) (as_object (view value.now)) }
 {
     match value.as_object() {
@@ -77,12 +76,12 @@ fn has_only(needed: &[Key], others: &[Key], value: &Value) -> bool
 
 /// An object that has no other key than the needed ones and the others, and every needed one.
 #[tactic(auto, unfolding(crate::specs::Values::object_at))]
-pub(crate) fn object_at<'a>(
+pub(crate) fn object_at<'v, 'a>(
     path: Path,
     needed: &[Key],
     others: &[Key],
-    value: &'a Value,
-) -> Result<&'a Value, WalkError>
+    value: &'v Json<'a>,
+) -> Result<&'v Json<'a>, WalkError>
     ensures { GivesAs result (λ v. view v.now)
         (values.object_at path needed.now others.now (view value.now)) }
 {

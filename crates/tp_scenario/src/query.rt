@@ -4,7 +4,7 @@ ghost use Rattle.tp_types.specs.Spelling.{is_name as is_name_text};
 ghost use Rattle.tp_model.specs.Ids.{same_name};
 ghost use Rattle.tp_scenario.specs.Queries.{writes};
 ghost use Rattle.std.specs.List.{count_by};
-ghost use Rattle.serde_json.specs.View.{view};
+ghost use Rattle.tp_json.specs.View.{view};
 ghost use Rattle.tp_model.specs.Valid.{has_constant};
 ghost use Rattle.tp_scenario.specs.Queries as queries;
 ghost use Rattle.tp_scenario.specs.mirrors.Asks.{asked};
@@ -15,8 +15,8 @@ use crate::names::Names;
 use crate::path::Path;
 use crate::values::{text_at, used};
 use crate::words::Words;
-use serde_json::Value;
 use std::alloc::Global;
+use tp_json::Json;
 use tp_model::TERMS_MAX;
 use tp_types::{ItemId, List, NoMemory, Operand, Query, Term, is_name, number_of};
 
@@ -295,7 +295,7 @@ pub(crate) fn query_at(
     alloc: Global,
     path: Path,
     items: &Names,
-    value: &Value,
+    value: &Json,
 ) -> Result<Query, WalkError>
     ensures { Gives result (queries.query_at path items.now (view value.now)) }
 {

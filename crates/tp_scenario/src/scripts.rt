@@ -1,12 +1,13 @@
 //! The scripts of a race.
-ghost use Rattle.std.specs.Prelude.{◌≡◌, [], map, option_map, slice_get, IfOk};
+ghost use Rattle.std.specs.Prelude.{◌≡◌, [], map, option_map, slice_get, Some, IfOk};
 ghost use Rattle.std.specs.Option.{option_map_or};
 ghost use Rattle.std.specs.List.{list_any};
-ghost use Rattle.serde_json.specs.View.{view, items_view};
+ghost use Rattle.tp_json.specs.View.{view, items_view};
 ghost use Rattle.tp_model.specs.Ids.{same_txn};
 ghost use Rattle.tp_scenario.specs.Scripts as scripts;
 ghost use Rattle.tp_scenario.specs.Values.{each, through};
 ghost use Rattle.tp_scenario.specs.mirrors.Commands.{command as command_view};
+ghost use Rattle.tp_scenario.specs.mirrors.Elements.{items_in};
 ghost use Rattle.tp_scenario.specs.mirrors.Gives.{Gives, GivesNew};
 
 use crate::command::{Command, CountVerb, NameVerb, command_at};
@@ -14,9 +15,9 @@ use crate::fault::{WalkError, range_at};
 use crate::names::{Declared, Names};
 use crate::path::{Key, Path};
 use crate::steps::step_for;
-use crate::values::{array_at, items_at, items_or, used_at};
-use serde_json::Value;
+use crate::values::{array_of, test_array, test_items, test_items_or, used_at};
 use std::alloc::Global;
+use tp_json::Json;
 use tp_model::{CLIENTS_MAX, OFFICERS_MAX, PUBLISHERS_MAX, STEPS_MAX};
 use tp_types::{Admin, List, NoMemory, Step, TxnId};
 
@@ -60,7 +61,7 @@ fn submitted_at(
     txns: &Names,
     earlier: &[List<TxnId>],
     made: &[TxnId],
-    value: &Value,
+    value: &Json,
 ) -> Result<TxnId, WalkError>
     ensures { Gives result
         (scripts.submission_at path txns.now earlier.now made.now (view value.now)) }
@@ -77,7 +78,7 @@ fn each_submitted(
     alloc: Global,
     txns: &Names,
     earlier: &[List<TxnId>],
-    values: &[Value],
+    values: &[Json],
 ) -> Result<List<TxnId>, WalkError>
     ensures { Gives result
         (each (scripts.submission_in txns.now earlier.now) [] (items_view values.now)) }
@@ -96,19 +97,18 @@ fn client_at(
     alloc: Global,
     txns: &Names,
     earlier: &[List<TxnId>],
-    value: &Value,
+    value: &Json,
 ) -> Result<List<TxnId>, WalkError>
     ensures { Gives result (scripts.client_at txns.now earlier.now (view value.now)) }
 {
-    let values = array_at(Path::Member(Key::Clients, earlier.len()), Some(value))?;
-    each_submitted(alloc, txns, earlier, values)
+    test_array(Path::Member(Key::Clients, earlier.len()), Some(value))?;
+    match array_of(Some(value)) {
+        None => Ok(List::new(alloc)),
+        Some(values) => each_submitted(alloc, txns, earlier, values),
+    }
 }
 
-fn each_client(
-    alloc: Global,
-    txns: &Names,
-    values: &[Value],
-) -> Result<List<List<TxnId>>, WalkError>
+fn each_client(alloc: Global, txns: &Names, values: &[Json]) -> Result<List<List<TxnId>>, WalkError>
     ensures { Gives result (each (scripts.client_at txns.now) [] (items_view values.now)) }
 {
     let mut made = List::new(alloc);
@@ -124,13 +124,16 @@ fn each_client(
 pub(crate) fn clients_at(
     alloc: Global,
     txns: &Names,
-    value: Option<&Value>,
+    value: Option<&Json>,
 ) -> Result<List<List<TxnId>>, WalkError>
     ensures { Gives result
         (scripts.clients_at txns.now (option_map (λ v. view v.now) value.entry)) }
 {
-    let values = items_or(Path::Top(Key::Clients), CLIENTS_MAX, value)?;
-    each_client(alloc, txns, values)
+    test_items_or(Path::Top(Key::Clients), CLIENTS_MAX, value)?;
+    match array_of(value) {
+        None => Ok(List::new(alloc)),
+        Some(values) => each_client(alloc, txns, values),
+    }
 }
 
 fn is_publishing(command: Command<'_>) -> bool
@@ -170,7 +173,7 @@ fn allowed_step(
 }
 
 #[tactic(auto, unfolding(crate::specs::Scripts::official_step_at))]
-fn official_at(path: Path, names: &Declared, value: &Value) -> Result<Step, WalkError>
+fn official_at(path: Path, names: &Declared, value: &Json) -> Result<Step, WalkError>
     ensures { Gives result (scripts.official_step_at path names.now (view value.now)) }
 {
     let command = command_at(path, value)?;
@@ -181,7 +184,7 @@ fn each_official(
     alloc: Global,
     names: &Declared,
     at: usize,
-    values: &[Value],
+    values: &[Json],
 ) -> Result<List<Step>, WalkError>
     ensures { Gives result
         (each (scripts.official_step_in names.now at) [] (items_view values.now)) }
@@ -200,19 +203,22 @@ fn officer_at(
     alloc: Global,
     names: &Declared,
     earlier: &[List<Step>],
-    value: &Value,
+    value: &Json,
 ) -> Result<List<Step>, WalkError>
     ensures { Gives result (scripts.officer_at names.now earlier.now (view value.now)) }
 {
     let path = Path::Member(Key::Officers, earlier.len());
-    let values = items_at(path, 0, STEPS_MAX, Some(value))?;
-    each_official(alloc, names, earlier.len(), values)
+    test_items(path, 0, STEPS_MAX, Some(value))?;
+    match array_of(Some(value)) {
+        None => Ok(List::new(alloc)),
+        Some(values) => each_official(alloc, names, earlier.len(), values),
+    }
 }
 
 fn each_officer(
     alloc: Global,
     names: &Declared,
-    values: &[Value],
+    values: &[Json],
 ) -> Result<List<List<Step>>, WalkError>
     ensures { Gives result (each (scripts.officer_at names.now) [] (items_view values.now)) }
 {
@@ -229,13 +235,16 @@ fn each_officer(
 pub(crate) fn officers_at(
     alloc: Global,
     names: &Declared,
-    value: Option<&Value>,
+    value: Option<&Json>,
 ) -> Result<List<List<Step>>, WalkError>
     ensures { Gives result
         (scripts.officers_at names.now (option_map (λ v. view v.now) value.entry)) }
 {
-    let values = items_or(Path::Top(Key::Officers), OFFICERS_MAX, value)?;
-    each_officer(alloc, names, values)
+    test_items_or(Path::Top(Key::Officers), OFFICERS_MAX, value)?;
+    match array_of(value) {
+        None => Ok(List::new(alloc)),
+        Some(values) => each_officer(alloc, names, values),
+    }
 }
 
 /// Takes one version of an administrator from those that are left.
@@ -273,7 +282,7 @@ fn published_at(
     path: Path,
     names: &Declared,
     state: &mut Published,
-    value: &Value,
+    value: &Json,
 ) -> Result<(), WalkError>
     ensures { GivesNew result state.new
         (scripts.publication_at path names.now state.old (view value.now)) }
@@ -290,7 +299,7 @@ fn published_in(
     names: &Declared,
     at: usize,
     state: &mut Published,
-    value: &Value,
+    value: &Json,
 ) -> Result<(), WalkError>
     ensures { GivesNew result state.new
         (scripts.publication_in names.now at state.old (view value.now)) }
@@ -304,7 +313,7 @@ fn each_published(
     names: &Declared,
     at: usize,
     left: List<usize>,
-    values: &[Value],
+    values: &[Json],
 ) -> Result<Published, WalkError>
     ensures { Gives result
         (through (scripts.publication_in names.now at) (record { script = []; left = left })
@@ -320,20 +329,40 @@ fn each_published(
     Ok(state)
 }
 
+fn published_by(
+    alloc: Global,
+    names: &Declared,
+    at: usize,
+    left: List<usize>,
+    value: &Json,
+) -> Result<Published, WalkError>
+    ensures { Gives result
+        (through (scripts.publication_in names.now at) (record { script = []; left = left })
+        (items_in (Some (view value.now)))) }
+{
+    match array_of(Some(value)) {
+        None => Ok(Published {
+            script: List::new(alloc),
+            left,
+        }),
+        Some(values) => each_published(alloc, names, at, left, values),
+    }
+}
+
 /// The next publisher.
 #[tactic(auto, unfolding(crate::specs::Scripts::publisher_at))]
 fn publisher_at(
     alloc: Global,
     names: &Declared,
     state: Publishing,
-    value: &Value,
+    value: &Json,
 ) -> Result<Publishing, WalkError>
     ensures { Gives result (scripts.publisher_at names.now state (view value.now)) }
 {
     let Publishing { mut scripts, left } = state;
     let at = scripts.len();
-    let values = array_at(Path::Member(Key::Publishers, at), Some(value))?;
-    let Published { script, left } = each_published(alloc, names, at, left, values)?;
+    test_array(Path::Member(Key::Publishers, at), Some(value))?;
+    let Published { script, left } = published_by(alloc, names, at, left, value)?;
     scripts.push(script)?;
     Ok(Publishing { scripts, left })
 }
@@ -353,7 +382,7 @@ fn each_publisher(
     alloc: Global,
     names: &Declared,
     left: List<usize>,
-    values: &[Value],
+    values: &[Json],
 ) -> Result<Publishing, WalkError>
     ensures { Gives result
         (through (scripts.publisher_at names.now) (record { scripts = []; left = left })
@@ -374,14 +403,20 @@ fn publishing_from(
     alloc: Global,
     names: &Declared,
     admins: &[Admin],
-    value: Option<&Value>,
+    value: Option<&Json>,
 ) -> Result<Publishing, WalkError>
     ensures { Gives result
         (scripts.publishing_from names.now admins.now (option_map (λ v. view v.now) value.entry)) }
 {
-    let values = items_or(Path::Top(Key::Publishers), PUBLISHERS_MAX, value)?;
+    test_items_or(Path::Top(Key::Publishers), PUBLISHERS_MAX, value)?;
     let left = versions_left(alloc, admins)?;
-    each_publisher(alloc, names, left, values)
+    match array_of(value) {
+        None => Ok(Publishing {
+            scripts: List::new(alloc),
+            left,
+        }),
+        Some(values) => each_publisher(alloc, names, left, values),
+    }
 }
 
 /// The script of each publisher.
@@ -390,7 +425,7 @@ pub(crate) fn publishers_at(
     alloc: Global,
     names: &Declared,
     admins: &[Admin],
-    value: Option<&Value>,
+    value: Option<&Json>,
 ) -> Result<List<List<Step>>, WalkError>
     ensures { Gives result
         (scripts.publishers_at names.now admins.now (option_map (λ v. view v.now) value.entry)) }

@@ -1,6 +1,6 @@
 //! Servers: what they know at the start, and their items.
 ghost use Rattle.std.specs.Prelude.{◌≡◌, ◌≤◌, ◌-◌, ◌++◌, ◌∷◌, [], length, map, option_map, IfOk, OnOk};
-ghost use Rattle.serde_json.specs.View.{view, items_view, members_view};
+ghost use Rattle.tp_json.specs.View.{view, items_view, members_view};
 ghost use Rattle.tp_scenario.specs.Admins.{admin_name};
 ghost use Rattle.tp_scenario.specs.Servers as servers;
 ghost use Rattle.tp_scenario.specs.Values.{each, through};
@@ -14,9 +14,10 @@ use crate::fault::{Fault, Kind, WalkError, shape_at};
 use crate::names::{Declared, Names};
 use crate::object::{field, object_at};
 use crate::path::{Key, Path, Site};
-use crate::values::{count_at, items_at, new_name_at, used_at, whole_in};
-use serde_json::{Map, Value};
+use crate::values::{array_of, count_at, new_name_at, test_items, used_at, whole_in};
 use std::alloc::{AllocError, Global};
+use std::collections::BTreeMap;
+use tp_json::{Json, in_order};
 use tp_model::{ITEMS_MAX, SERVERS_MAX, VALUE_MAX};
 use tp_types::{
     Admin, AdminId, Item, ItemId, List, Name, NoMemory, ServerDecl, ServerId, Version, both,
@@ -66,7 +67,7 @@ fn version_at(
     server: usize,
     key: &[u8],
     opening: u32,
-    value: &Value,
+    value: &Json,
 ) -> Result<Version, WalkError>
     ensures { Gives result (servers.version_at server key.now opening (view value.now)) }
 {
@@ -105,7 +106,7 @@ fn put_known(
     server: usize,
     versions: &mut List<Version>,
     key: &[u8],
-    value: &Value,
+    value: &Json,
 ) -> Result<(), WalkError>
     requires { names.now ≡ map admin_name admins.now }
     ensures { GivesNew result versions.new
@@ -118,10 +119,10 @@ fn put_known(
     Ok(())
 }
 
-fn entries_of(
-    members: &Map<String, Value>,
+fn entries_of<'m, 'v, 'a>(
+    members: &'m BTreeMap<&'a str, &'v Json<'a>>,
     alloc: Global,
-) -> Result<Vec<(&String, &Value)>, AllocError>
+) -> Result<Vec<(&'m &'a str, &'m &'v Json<'a>)>, AllocError>
     ensures { IfOk result (λ entries. lent entries.items ≡ members.now.entries) }
 {
     members.iter().collect(alloc)
@@ -142,7 +143,7 @@ fn known_from(
     admins: &[Admin],
     names: &Names,
     server: usize,
-    entries: &[(&String, &Value)],
+    entries: &[(&&str, &&Json)],
 ) -> Result<List<Version>, WalkError>
     requires { names.now ≡ map admin_name admins.now }
     ensures { Gives result
@@ -166,19 +167,20 @@ fn known_from(
 }
 
 #[tactic(auto, using(crate::proofs::Views::entered))]
-fn known_in(
+fn known_in<'v, 'a>(
     alloc: Global,
     admins: &[Admin],
     names: &Names,
     server: usize,
-    members: &Map<String, Value>,
+    members: &'v [(&'a str, Json<'a>)],
 ) -> Result<List<Version>, WalkError>
     requires { names.now ≡ map admin_name admins.now }
     ensures { Gives result
         (servers.known_from admins.now server (map servers.opening admins.now)
-        (members_view members.now.entries)) }
+        (members_view members.now)) }
 {
-    match entries_of(members, alloc) {
+    let members = in_order(alloc, members)?;
+    match entries_of(&members, alloc) {
         Err(_) => Err(WalkError::NoMemory),
         Ok(entries) => known_from(alloc, admins, names, server, entries.as_slice()),
     }
@@ -189,7 +191,7 @@ fn told_knows(
     admins: &[Admin],
     names: &Names,
     server: usize,
-    value: &Value,
+    value: &Json,
 ) -> Result<List<Version>, WalkError>
     requires { names.now ≡ map admin_name admins.now }
     ensures { Gives result (servers.knows_in admins.now server (Some (view value.now))) }
@@ -207,7 +209,7 @@ fn knows_at(
     admins: &[Admin],
     names: &Names,
     server: usize,
-    value: Option<&Value>,
+    value: Option<&Json>,
 ) -> Result<List<Version>, WalkError>
     requires { names.now ≡ map admin_name admins.now }
     ensures { Gives result
@@ -227,7 +229,7 @@ fn item_at<'a>(
     names: &mut Names<'a>,
     server: u32,
     at: usize,
-    value: &'a Value,
+    value: &Json<'a>,
 ) -> Result<Item, WalkError>
     ensures value { Gives result (servers.item_at admins.now names.old server at (view value.now)) }
     ensures named { IfOk result (λ item. names.new ≡ names.old ++ item.name ∷ []) }
@@ -262,7 +264,7 @@ fn item_at<'a>(
 }
 
 /// The least and the greatest value of an item, and its value at the start.
-fn bounds_and_value_at(server: u32, at: usize, fields: &Value) -> Result<(i64, i64, i64), WalkError>
+fn bounds_and_value_at(server: u32, at: usize, fields: &Json) -> Result<(i64, i64, i64), WalkError>
     ensures { Gives result (parts.bounds_and_value_at server at (view fields.now)) }
 {
     let min = whole_in(
@@ -299,7 +301,7 @@ fn each_item<'a>(
     names: &mut Names<'a>,
     server: u32,
     made: &mut List<Item>,
-    values: &'a [Value],
+    values: &[Json<'a>],
 ) -> Result<(), WalkError>
     requires { names.old ≡ map servers.item_name made.old }
     ensures value { GivesNew result made.new
@@ -323,7 +325,7 @@ fn items_in<'a>(
     names: &mut Names<'a>,
     server: u32,
     made: &mut List<Item>,
-    value: Option<&'a Value>,
+    value: Option<&Json<'a>>,
 ) -> Result<(), WalkError>
     requires { names.old ≡ map servers.item_name made.old }
     ensures value { GivesNew result made.new
@@ -331,8 +333,11 @@ fn items_in<'a>(
     ensures named { OnOk result (names.new ≡ map servers.item_name made.new) }
 {
     let path = Path::Field(Key::Servers, server as usize, Key::Items);
-    let values = items_at(path, 0, ITEMS_MAX, value)?;
-    each_item(alloc, admins, names, server, made, values)
+    test_items(path, 0, ITEMS_MAX, value)?;
+    match array_of(value) {
+        None => Ok(()),
+        Some(values) => each_item(alloc, admins, names, server, made, values),
+    }
 }
 
 /// So many ids from this one on.
@@ -353,7 +358,7 @@ fn ids_in<'a>(
     names: &mut Names<'a>,
     server: u32,
     made: &mut List<Item>,
-    value: Option<&'a Value>,
+    value: Option<&Json<'a>>,
 ) -> Result<List<ItemId>, WalkError>
     requires { names.old ≡ map servers.item_name made.old }
     ensures value { GivesNew result made.new
@@ -374,7 +379,7 @@ fn server_in<'a>(
     admins: &[Admin],
     names: &mut Declared<'a>,
     served: &mut Served,
-    value: &'a Value,
+    value: &Json<'a>,
 ) -> Result<(), WalkError>
     requires admins { names.old.admins ≡ map admin_name admins.now }
     requires servers { names.old.servers ≡ map servers.server_name served.old.servers }
@@ -420,7 +425,7 @@ fn each_server<'a>(
     alloc: Global,
     admins: &[Admin],
     names: &mut Declared<'a>,
-    values: &'a [Value],
+    values: &[Json<'a>],
 ) -> Result<Served, WalkError>
     requires admins { names.old.admins ≡ map admin_name admins.now }
     requires servers { names.old.servers ≡ [] }
@@ -450,7 +455,7 @@ pub(crate) fn servers_at<'a>(
     alloc: Global,
     admins: &[Admin],
     names: &mut Declared<'a>,
-    value: Option<&'a Value>,
+    value: Option<&Json<'a>>,
 ) -> Result<Served, WalkError>
     requires admins { names.old.admins ≡ map admin_name admins.now }
     requires servers { names.old.servers ≡ [] }
@@ -464,6 +469,12 @@ pub(crate) fn servers_at<'a>(
           items = map servers.item_name served.items;
         }) }
 {
-    let values = items_at(Path::Top(Key::Servers), 1, SERVERS_MAX, value)?;
-    each_server(alloc, admins, names, values)
+    test_items(Path::Top(Key::Servers), 1, SERVERS_MAX, value)?;
+    match array_of(value) {
+        None => Ok(Served {
+            servers: List::new(alloc),
+            items: List::new(alloc),
+        }),
+        Some(values) => each_server(alloc, admins, names, values),
+    }
 }

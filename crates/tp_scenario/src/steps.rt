@@ -1,6 +1,6 @@
 //! Steps: their numbers, and the names that they use.
 ghost use Rattle.std.specs.Prelude.{◌≡◌, [], option_map};
-ghost use Rattle.serde_json.specs.View.{view, items_view};
+ghost use Rattle.tp_json.specs.View.{view, items_view};
 ghost use Rattle.tp_model.specs.Limits as limits;
 ghost use Rattle.tp_scenario.specs.Steps as steps;
 ghost use Rattle.tp_scenario.specs.Values.{each};
@@ -11,9 +11,9 @@ use crate::command::{Command, CountVerb, NameVerb, command_at};
 use crate::fault::{WalkError, range_at};
 use crate::names::Declared;
 use crate::path::{Key, Path};
-use crate::values::{items_or, used};
-use serde_json::Value;
+use crate::values::{array_of, test_items_or, used};
 use std::alloc::Global;
+use tp_json::Json;
 use tp_model::{CALLS_MAX, STEPS_MAX, TICK_MAX};
 use tp_types::{Actor, AdminId, CredId, Cut, List, ServerId, Step, TxnId};
 
@@ -155,14 +155,14 @@ pub(crate) fn step_for(
 
 /// The step that a value spells.
 #[tactic(auto, unfolding(crate::specs::Steps::step_at))]
-pub(crate) fn step_at(names: &Declared, path: Path, value: &Value) -> Result<Step, WalkError>
+pub(crate) fn step_at(names: &Declared, path: Path, value: &Json) -> Result<Step, WalkError>
     ensures { Gives result (steps.step_at names.now path (view value.now)) }
 {
     let command = command_at(path, value)?;
     step_for(path, names, command)
 }
 
-fn each_step(alloc: Global, names: &Declared, values: &[Value]) -> Result<List<Step>, WalkError>
+fn each_step(alloc: Global, names: &Declared, values: &[Json]) -> Result<List<Step>, WalkError>
     ensures { Gives result (each (steps.step_in names.now) [] (items_view values.now)) }
 {
     let mut made = List::new(alloc);
@@ -178,10 +178,13 @@ fn each_step(alloc: Global, names: &Declared, values: &[Value]) -> Result<List<S
 pub(crate) fn steps_at(
     alloc: Global,
     names: &Declared,
-    value: Option<&Value>,
+    value: Option<&Json>,
 ) -> Result<List<Step>, WalkError>
     ensures { Gives result (steps.steps_at names.now (option_map (λ v. view v.now) value.entry)) }
 {
-    let values = items_or(Path::Top(Key::Steps), STEPS_MAX, value)?;
-    each_step(alloc, names, values)
+    test_items_or(Path::Top(Key::Steps), STEPS_MAX, value)?;
+    match array_of(value) {
+        None => Ok(List::new(alloc)),
+        Some(values) => each_step(alloc, names, values),
+    }
 }

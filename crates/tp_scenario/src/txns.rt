@@ -1,7 +1,7 @@
 //! Transactions.
 ghost use Rattle.std.specs.Prelude.{◌≡◌, ◌==◌, ◌++◌, ◌∷◌, [], false, not, map, option_map, IfOk, OnOk};
 ghost use Rattle.std.specs.List.{list_any};
-ghost use Rattle.serde_json.specs.View.{view, items_view};
+ghost use Rattle.tp_json.specs.View.{view, items_view};
 ghost use Rattle.tp_scenario.specs.Txns as txns;
 ghost use Rattle.tp_scenario.specs.Values.{apart, each};
 ghost use Rattle.tp_scenario.specs.declared.path.Key.TheVariants as Key;
@@ -15,10 +15,12 @@ use crate::names::{Declared, Names};
 use crate::object::{field, object_at};
 use crate::path::{Key, Path};
 use crate::query::query_at;
-use crate::values::{count_or, items_at, items_or, name_at, new_name_at, text_at, used_at};
+use crate::values::{
+    array_of, count_or, name_at, new_name_at, test_items, test_items_or, text_at, used_at,
+};
 use indexmap::IndexSet;
-use serde_json::Value;
 use std::alloc::Global;
+use tp_json::Json;
 use tp_model::{CREDS_MAX, QUERIES_MAX, ROUNDS_MAX, TXNS_MAX};
 use tp_types::{CredId, Level, List, Name, NoMemory, Query, Scheme, Transaction, both};
 
@@ -44,7 +46,7 @@ fn scheme_named(path: Path, text: &[u8]) -> Result<Scheme, WalkError>
     }
 }
 
-fn told_scheme(path: Path, value: Option<&Value>) -> Result<Scheme, WalkError>
+fn told_scheme(path: Path, value: Option<&Json>) -> Result<Scheme, WalkError>
     ensures { Gives result (txns.scheme_in_text path (option_map (λ v. view v.now) value.entry)) }
 {
     let text = text_at(path, value)?;
@@ -53,7 +55,7 @@ fn told_scheme(path: Path, value: Option<&Value>) -> Result<Scheme, WalkError>
 
 /// The scheme, deferred where none is told.
 #[tactic(auto, unfolding(crate::specs::Txns::scheme_at))]
-fn scheme_at(path: Path, value: Option<&Value>) -> Result<Scheme, WalkError>
+fn scheme_at(path: Path, value: Option<&Json>) -> Result<Scheme, WalkError>
     ensures { Gives result (txns.scheme_at path (option_map (λ v. view v.now) value.entry)) }
 {
     match value {
@@ -74,7 +76,7 @@ fn level_named(path: Path, text: &[u8]) -> Result<Level, WalkError>
     }
 }
 
-fn told_level(path: Path, value: Option<&Value>) -> Result<Level, WalkError>
+fn told_level(path: Path, value: Option<&Json>) -> Result<Level, WalkError>
     ensures { Gives result (txns.level_in_text path (option_map (λ v. view v.now) value.entry)) }
 {
     let text = text_at(path, value)?;
@@ -83,7 +85,7 @@ fn told_level(path: Path, value: Option<&Value>) -> Result<Level, WalkError>
 
 /// The level, view where none is told.
 #[tactic(auto, unfolding(crate::specs::Txns::level_at))]
-fn level_at(path: Path, value: Option<&Value>) -> Result<Level, WalkError>
+fn level_at(path: Path, value: Option<&Json>) -> Result<Level, WalkError>
     ensures { Gives result (txns.level_at path (option_map (λ v. view v.now) value.entry)) }
 {
     match value {
@@ -109,7 +111,7 @@ fn presented_at(
     path: Path,
     creds: &Names,
     seen: &mut IndexSet<u32>,
-    value: &Value,
+    value: &Json,
 ) -> Result<CredId, WalkError>
     ensures value { Gives result
         (txns.credential_at path creds.now (creds_at seen.old.keys) (view value.now)) }
@@ -129,7 +131,7 @@ fn each_presented(
     at: usize,
     seen: &mut IndexSet<u32>,
     made: &mut List<CredId>,
-    values: &[Value],
+    values: &[Json],
 ) -> Result<(), WalkError>
     requires { made.old ≡ creds_at seen.old.keys }
     ensures { GivesNew result made.new
@@ -143,28 +145,42 @@ fn each_presented(
     Ok(())
 }
 
-#[tactic(auto, unfolding(crate::specs::Txns::credentials_at))]
-fn presented_by(
+fn all_presented(
     alloc: Global,
     creds: &Names,
     at: usize,
-    value: Option<&Value>,
+    values: &[Json],
 ) -> Result<List<CredId>, WalkError>
-    ensures { Gives result
-        (txns.credentials_at creds.now at (option_map (λ v. view v.now) value.entry)) }
+    ensures { Gives result (each (txns.credential_in creds.now at) [] (items_view values.now)) }
 {
-    let values = items_or(path_of(at, Key::Credentials), CREDS_MAX, value)?;
     let mut made = List::new(alloc);
     let mut seen = IndexSet::new(alloc);
     each_presented(creds, at, &mut seen, &mut made, values)?;
     Ok(made)
 }
 
+#[tactic(auto, unfolding(crate::specs::Txns::credentials_at))]
+fn presented_by(
+    alloc: Global,
+    creds: &Names,
+    at: usize,
+    value: Option<&Json>,
+) -> Result<List<CredId>, WalkError>
+    ensures { Gives result
+        (txns.credentials_at creds.now at (option_map (λ v. view v.now) value.entry)) }
+{
+    test_items_or(path_of(at, Key::Credentials), CREDS_MAX, value)?;
+    match array_of(value) {
+        None => Ok(List::new(alloc)),
+        Some(values) => all_presented(alloc, creds, at, values),
+    }
+}
+
 fn each_query(
     alloc: Global,
     items: &Names,
     at: usize,
-    values: &[Value],
+    values: &[Json],
 ) -> Result<List<Query>, WalkError>
     ensures { Gives result (each (txns.query_in items.now at) [] (items_view values.now)) }
 {
@@ -182,13 +198,16 @@ fn queries_at(
     alloc: Global,
     items: &Names,
     at: usize,
-    value: Option<&Value>,
+    value: Option<&Json>,
 ) -> Result<List<Query>, WalkError>
     ensures { Gives result
         (txns.queries_at items.now at (option_map (λ v. view v.now) value.entry)) }
 {
-    let values = items_at(path_of(at, Key::Queries), 1, QUERIES_MAX, value)?;
-    each_query(alloc, items, at, values)
+    test_items(path_of(at, Key::Queries), 1, QUERIES_MAX, value)?;
+    match array_of(value) {
+        None => Ok(List::new(alloc)),
+        Some(values) => each_query(alloc, items, at, values),
+    }
 }
 
 /// The name of a transaction, which no other transaction has and no server.
@@ -198,7 +217,7 @@ fn txn_name_at<'a>(
     servers: &Names<'a>,
     others: &mut Names<'a>,
     at: usize,
-    value: Option<&'a Value>,
+    value: Option<&Json<'a>>,
 ) -> Result<Name, WalkError>
     ensures value { Gives result
         (txns.txn_name_at servers.now others.old at (option_map (λ v. view v.now) value.entry)) }
@@ -217,7 +236,7 @@ fn txn_at<'a>(
     alloc: Global,
     names: &mut Declared<'a>,
     at: usize,
-    value: &'a Value,
+    value: &Json<'a>,
 ) -> Result<Transaction, WalkError>
     ensures value { Gives result (txns.txn_at names.old at (view value.now)) }
     ensures named { IfOk result (λ txn.
@@ -259,7 +278,7 @@ fn txn_at<'a>(
 }
 
 /// How a transaction is run: its scheme, its level, and how many rounds may meet a newer version.
-fn manner_at(at: usize, fields: &Value) -> Result<(Scheme, Level, u32), WalkError>
+fn manner_at(at: usize, fields: &Json) -> Result<(Scheme, Level, u32), WalkError>
     ensures { Gives result (parts.manner_at at (view fields.now)) }
 {
     let scheme = scheme_at(path_of(at, Key::Scheme), field(fields, Key::Scheme))?;
@@ -277,7 +296,7 @@ fn manner_at(at: usize, fields: &Value) -> Result<(Scheme, Level, u32), WalkErro
 fn each_txn<'a>(
     alloc: Global,
     names: &mut Declared<'a>,
-    values: &'a [Value],
+    values: &[Json<'a>],
 ) -> Result<List<Transaction>, WalkError>
     requires { names.old.txns ≡ [] }
     ensures value { Gives result (each (txns.txn_in names.old) [] (items_view values.now)) }
@@ -296,7 +315,7 @@ fn each_txn<'a>(
 pub(crate) fn txns_at<'a>(
     alloc: Global,
     names: &mut Declared<'a>,
-    value: Option<&'a Value>,
+    value: Option<&Json<'a>>,
 ) -> Result<List<Transaction>, WalkError>
     requires { names.old.txns ≡ [] }
     ensures value { Gives result
@@ -304,6 +323,9 @@ pub(crate) fn txns_at<'a>(
     ensures named { IfOk result (λ made.
         names.new ≡ record names.old { txns = map txns.txn_name made }) }
 {
-    let values = items_at(Path::Top(Key::Transactions), 0, TXNS_MAX, value)?;
-    each_txn(alloc, names, values)
+    test_items(Path::Top(Key::Transactions), 0, TXNS_MAX, value)?;
+    match array_of(value) {
+        None => Ok(List::new(alloc)),
+        Some(values) => each_txn(alloc, names, values),
+    }
 }

@@ -1,20 +1,25 @@
 //! Single values of a scenario's JSON.
-ghost use Rattle.std.specs.Prelude.{◌≡◌, ◌≤◌, ◌<◌, ◌++◌, ◌∷◌, [], length, max, option_map, pos, IfOk};
-ghost use Rattle.serde_json.specs.View.{view, items_view};
+ghost use Rattle.std.specs.Prelude.{◌≡◌, ◌≤◌, ◌<◌, ◌++◌, ◌∷◌, [], length, max, option_and_then, option_map, pos, IfOk, IfSome, OnOk};
+ghost use Rattle.serde_json.specs.Find.{as_array};
+ghost use Rattle.tp_json.specs.View.{view, items_view};
 ghost use Rattle.tp_model.specs.Limits as limits;
 ghost use Rattle.tp_scenario.specs.Values as values;
 ghost use Rattle.tp_scenario.specs.mirrors.Gives.{Gives, GivesAs};
+ghost use Rattle.tp_scenario.specs.mirrors.Elements.{items_in};
 
 use crate::fault::{WalkError, range_at, shape_at, unknown_at};
 use crate::names::Names;
 use crate::path::Path;
-use serde_json::Value;
 use std::alloc::Global;
+use tp_json::Json;
 use tp_types::{Name, is_name};
 
 /// A value that is needed.
 #[tactic(auto, unfolding(crate::specs::Values::present_at))]
-pub(crate) fn needed(path: Path, value: Option<&Value>) -> Result<&Value, WalkError>
+pub(crate) fn needed<'v, 'a>(
+    path: Path,
+    value: Option<&'v Json<'a>>,
+) -> Result<&'v Json<'a>, WalkError>
     ensures { GivesAs result (λ v. view v.now)
         (values.present_at path (option_map (λ v. view v.now) value.entry)) }
 {
@@ -23,11 +28,11 @@ pub(crate) fn needed(path: Path, value: Option<&Value>) -> Result<&Value, WalkEr
 
 /// A text.
 #[tactic(auto, unfolding(crate::specs::Values::text_at))]
-pub(crate) fn text_at(path: Path, value: Option<&Value>) -> Result<&[u8], WalkError>
+pub(crate) fn text_at<'a>(path: Path, value: Option<&Json<'a>>) -> Result<&'a [u8], WalkError>
     ensures { GivesAs result (λ s. s.now)
         (values.text_at path (option_map (λ v. view v.now) value.entry)) }
 {
-    match value.and_then(Value::as_str) {
+    match value.and_then(Json::as_str) {
         None => Err(shape_at(path)),
         Some(text) => Ok(text.as_bytes()),
     }
@@ -35,7 +40,7 @@ pub(crate) fn text_at(path: Path, value: Option<&Value>) -> Result<&[u8], WalkEr
 
 /// A text that is spelled as a name, as it stands in the JSON.
 #[tactic(auto, unfolding(crate::specs::Values::name_at))]
-pub(crate) fn name_text(path: Path, value: Option<&Value>) -> Result<&[u8], WalkError>
+pub(crate) fn name_text<'a>(path: Path, value: Option<&Json<'a>>) -> Result<&'a [u8], WalkError>
     ensures { GivesAs result (λ s. s.now)
         (values.name_at path (option_map (λ v. view v.now) value.entry)) }
 {
@@ -49,7 +54,7 @@ pub(crate) fn name_text(path: Path, value: Option<&Value>) -> Result<&[u8], Walk
 
 /// A name.
 #[tactic(auto, unfolding(crate::specs::Values::name_at))]
-pub(crate) fn name_at(alloc: Global, path: Path, value: Option<&Value>) -> Result<Name, WalkError>
+pub(crate) fn name_at(alloc: Global, path: Path, value: Option<&Json>) -> Result<Name, WalkError>
     ensures { Gives result (values.name_at path (option_map (λ v. view v.now) value.entry)) }
 {
     let text = text_at(path, value)?;
@@ -65,7 +70,7 @@ pub(crate) fn new_name_at<'a>(
     alloc: Global,
     path: Path,
     names: &mut Names<'a>,
-    value: Option<&'a Value>,
+    value: Option<&Json<'a>>,
 ) -> Result<Name, WalkError>
     ensures value { Gives result
         (values.new_name_at path names.old (option_map (λ v. view v.now) value.entry)) }
@@ -97,7 +102,7 @@ pub(crate) fn used(path: Path, names: &Names, name: &[u8]) -> Result<u32, WalkEr
 
 /// The place of a name that is used by a value.
 #[tactic(auto, unfolding(crate::specs::Values::place_at))]
-pub(crate) fn used_at(path: Path, names: &Names, value: Option<&Value>) -> Result<u32, WalkError>
+pub(crate) fn used_at(path: Path, names: &Names, value: Option<&Json>) -> Result<u32, WalkError>
     ensures { Gives result
         (values.place_at path names.now (option_map (λ v. view v.now) value.entry)) }
 {
@@ -106,10 +111,10 @@ pub(crate) fn used_at(path: Path, names: &Names, value: Option<&Value>) -> Resul
 
 /// A whole number.
 #[tactic(auto, unfolding(crate::specs::Values::whole_at))]
-pub(crate) fn whole_at(path: Path, value: Option<&Value>) -> Result<i64, WalkError>
+pub(crate) fn whole_at(path: Path, value: Option<&Json>) -> Result<i64, WalkError>
     ensures { Gives result (values.whole_at path (option_map (λ v. view v.now) value.entry)) }
 {
-    match value.and_then(Value::as_i64) {
+    match value.and_then(Json::as_i64) {
         None => Err(shape_at(path)),
         Some(number) => Ok(number),
     }
@@ -127,7 +132,7 @@ pub(crate) fn whole_in(
     path: Path,
     low: i64,
     high: i64,
-    value: Option<&Value>,
+    value: Option<&Json>,
 ) -> Result<i64, WalkError>
     ensures { Gives result
         (values.whole_in path low high (option_map (λ v. view v.now) value.entry)) }
@@ -167,7 +172,7 @@ pub(crate) fn count_at(
     path: Path,
     low: u64,
     high: u64,
-    value: Option<&Value>,
+    value: Option<&Json>,
 ) -> Result<u64, WalkError>
     ensures value { Gives result
         (values.count_at path low high (option_map (λ v. view v.now) value.entry)) }
@@ -184,7 +189,7 @@ pub(crate) fn count_or(
     low: u64,
     high: u64,
     missing: u64,
-    value: Option<&Value>,
+    value: Option<&Json>,
 ) -> Result<u64, WalkError>
     ensures value { Gives result
         (values.count_or path low high missing (option_map (λ v. view v.now) value.entry)) }
@@ -196,60 +201,71 @@ pub(crate) fn count_or(
     }
 }
 
+/// The members of an array; None, where a value is missing or is no array.
+#[tactic(auto, using(crate::proofs::Views::viewed))]
+pub(crate) fn array_of<'v, 'a>(value: Option<&'v Json<'a>>) -> Option<&'v [Json<'a>]>
+    ensures members { option_map (λ v. items_view v.now) result
+        ≡ option_and_then as_array (option_map (λ v. view v.now) value.entry) }
+    ensures count { IfSome result (λ v. values.item_count (items_view v.now) ≡ length v.now) }
+{
+    match value {
+        None => None,
+        Some(value) => value.as_array(),
+    }
+}
+
+/// Whether the value is an array. A result that lends its members has no proof, so they are lent by `array_of`.
+#[tactic(auto, unfolding(crate::specs::Values::array_at))]
+pub(crate) fn test_array(path: Path, value: Option<&Json>) -> Result<(), WalkError>
+    ensures { GivesAs result (λ _. items_in (option_map (λ v. view v.now) value.entry))
+        (values.array_at path (option_map (λ v. view v.now) value.entry)) }
+{
+    match array_of(value) {
+        None => Err(shape_at(path)),
+        Some(_) => Ok(()),
+    }
+}
+
 #[tactic(auto, unfolding(crate::specs::Values::items_or_range), using(crate::proofs::Views::viewed))]
-fn sized(path: Path, least: usize, most: usize, items: &[Value]) -> Result<&[Value], WalkError>
-    ensures value { GivesAs result (λ s. items_view s.now)
+fn sized(path: Path, least: usize, most: usize, items: &[Json]) -> Result<(), WalkError>
+    ensures value { GivesAs result (λ _. items_view items.now)
         (values.items_or_range path least most (items_view items.now)) }
-    ensures few { IfOk result (λ s. length s.now ≤ most) }
+    ensures few { OnOk result (length items.now ≤ most) }
 {
     if least <= items.len() && items.len() <= most {
-        Ok(items)
+        Ok(())
     } else {
         Err(range_at(path))
     }
 }
 
-/// An array.
-#[tactic(auto, unfolding(crate::specs::Values::array_at))]
-pub(crate) fn array_at(path: Path, value: Option<&Value>) -> Result<&[Value], WalkError>
-    ensures { GivesAs result (λ s. items_view s.now)
-        (values.array_at path (option_map (λ v. view v.now) value.entry)) }
-{
-    match value.and_then(Value::as_array) {
-        None => Err(shape_at(path)),
-        Some(items) => Ok(items.as_slice()),
-    }
-}
-
-/// An array whose length is in its range.
-#[tactic(auto, unfolding(crate::specs::Values::items_at))]
-pub(crate) fn items_at(
+/// Whether the value is an array whose length is in its range.
+#[tactic(auto, unfolding(crate::specs::Values::items_at, crate::specs::Values::array_at))]
+pub(crate) fn test_items(
     path: Path,
     least: usize,
     most: usize,
-    value: Option<&Value>,
-) -> Result<&[Value], WalkError>
-    ensures value { GivesAs result (λ s. items_view s.now)
+    value: Option<&Json>,
+) -> Result<(), WalkError>
+    ensures value { GivesAs result (λ _. items_in (option_map (λ v. view v.now) value.entry))
         (values.items_at path least most (option_map (λ v. view v.now) value.entry)) }
-    ensures few { IfOk result (λ s. length s.now ≤ most) }
+    ensures few { OnOk result
+        (values.item_count (items_in (option_map (λ v. view v.now) value.entry)) ≤ most) }
 {
-    let items = array_at(path, value)?;
-    sized(path, least, most, items)
+    match array_of(value) {
+        None => Err(shape_at(path)),
+        Some(items) => sized(path, least, most, items),
+    }
 }
 
 /// The same, where a missing one is empty.
 #[tactic(auto, unfolding(crate::specs::Values::items_or))]
-pub(crate) fn items_or(
-    path: Path,
-    most: usize,
-    value: Option<&Value>,
-) -> Result<&[Value], WalkError>
-    ensures value { GivesAs result (λ s. items_view s.now)
+pub(crate) fn test_items_or(path: Path, most: usize, value: Option<&Json>) -> Result<(), WalkError>
+    ensures { GivesAs result (λ _. items_in (option_map (λ v. view v.now) value.entry))
         (values.items_or path most (option_map (λ v. view v.now) value.entry)) }
-    ensures few { IfOk result (λ s. length s.now ≤ most) }
 {
     match value {
-        None => Ok(&[]),
-        Some(_) => items_at(path, 0, most, value),
+        None => Ok(()),
+        Some(_) => test_items(path, 0, most, value),
     }
 }

@@ -1,6 +1,6 @@
 //! The whole scenario.
 ghost use Rattle.std.specs.Prelude.{◌≡◌, ◌∷◌, []};
-ghost use Rattle.serde_json.specs.View.{view};
+ghost use Rattle.tp_json.specs.View.{view};
 ghost use Rattle.tp_scenario.specs.Values.{object_at};
 ghost use Rattle.tp_scenario.specs.Walk as walk;
 ghost use Rattle.tp_scenario.specs.declared.path.Key.TheVariants as Key;
@@ -18,8 +18,8 @@ use crate::servers::{Served, servers_at};
 use crate::steps::steps_at;
 use crate::txns::txns_at;
 use crate::values::count_or;
-use serde_json::Value;
 use std::alloc::Global;
+use tp_json::Json;
 use tp_model::CLOCK_MAX;
 use tp_types::{Scenario, both};
 
@@ -36,7 +36,7 @@ fn no_names<'a>(alloc: Global) -> Declared<'a>
 }
 
 /// The object that a scenario is, with its keys.
-fn fields_of(value: &Value) -> Result<&Value, WalkError>
+fn fields_of<'v, 'a>(value: &'v Json<'a>) -> Result<&'v Json<'a>, WalkError>
     ensures { GivesAs result (λ v. view v.now)
         (object_at Path.Whole
         (Key.Admins ∷ Key.Servers ∷ Key.Transactions ∷ [])
@@ -63,7 +63,7 @@ fn fields_of(value: &Value) -> Result<&Value, WalkError>
 fn walked_with<'a>(
     alloc: Global,
     names: &mut Declared<'a>,
-    value: &'a Value,
+    value: &Json<'a>,
 ) -> Result<Scenario, WalkError>
     requires { names.old ≡ walk.no_names }
     ensures { Gives result (walk.walk_of (view value.now)) }
@@ -104,7 +104,7 @@ fn walked_with<'a>(
 }
 
 /// The scenario that a value is, or the first fault in it.
-pub(crate) fn walked(alloc: Global, value: &Value) -> Result<Scenario, WalkError>
+pub(crate) fn walked(alloc: Global, value: &Json) -> Result<Scenario, WalkError>
     ensures { Gives result (walk.walk_of (view value.now)) }
 {
     let mut names = no_names(alloc);

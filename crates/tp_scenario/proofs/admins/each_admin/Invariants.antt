@@ -1,5 +1,5 @@
 use Rattle.std.proofs.Common.{◌≡◌, [], drop, map}
-use Rattle.serde_json.specs.View.{items_view}
+use Rattle.tp_json.specs.View.{items_view}
 use Rattle.tp_scenario.specs.Admins.{admin_in, admin_name}
 use Rattle.tp_scenario.specs.Values.{each}
 use Rattle.tp_scenario.proofs.admins.each_admin.Given as goal

@@ -1,5 +1,5 @@
 use Rattle.std.proofs.Common.{◌≡◌, [], length, drop}
-use Rattle.serde_json.specs.View.{items_view}
+use Rattle.tp_json.specs.View.{items_view}
 use Rattle.tp_scenario.specs.Admins.{policy_in}
 use Rattle.tp_scenario.specs.Values.{each}
 use Rattle.tp_scenario.proofs.admins.each_policy.Given as goal

@@ -1,5 +1,5 @@
 use Rattle.std.proofs.Common.{◌≡◌, [], drop, map}
-use Rattle.serde_json.specs.View.{items_view}
+use Rattle.tp_json.specs.View.{items_view}
 use Rattle.tp_scenario.specs.Creds.{cred_in, cred_name}
 use Rattle.tp_scenario.specs.Values.{each}
 use Rattle.tp_scenario.proofs.creds.each_cred.Given as goal

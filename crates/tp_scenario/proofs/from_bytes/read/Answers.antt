@@ -1,4 +1,4 @@
-use Rattle.serde_json.specs.View.{view}
+use Rattle.tp_json.specs.View.{view}
 use Rattle.tp_scenario.proofs.ReadLemmas.{valid_from}
 use Rattle.tp_scenario.proofs.from_bytes.read.Goals as goal
 

@@ -1,5 +1,5 @@
 use Rattle.std.proofs.Common.{◌≡◌, [], drop}
-use Rattle.serde_json.specs.View.{items_view}
+use Rattle.tp_json.specs.View.{items_view}
 use Rattle.tp_scenario.specs.Values.{through}
 use Rattle.tp_scenario.specs.Scripts.{publisher_at}
 use Rattle.tp_scenario.proofs.scripts.each_publisher.Given as goal

@@ -1,5 +1,5 @@
 use Rattle.std.proofs.Common.{◌≡◌, [], drop}
-use Rattle.serde_json.specs.View.{items_view}
+use Rattle.tp_json.specs.View.{items_view}
 use Rattle.tp_scenario.specs.Values.{each}
 use Rattle.tp_scenario.specs.Scripts.{submission_in}
 use Rattle.tp_scenario.proofs.scripts.each_submitted.Given as goal

@@ -1,5 +1,5 @@
 use Rattle.std.proofs.Common.{◌≡◌, ◌≤◌, drop, map, length}
-use Rattle.serde_json.specs.View.{items_view}
+use Rattle.tp_json.specs.View.{items_view}
 use Rattle.tp_scenario.specs.Values.{each}
 use Rattle.tp_scenario.specs.Servers.{item_in, item_name}
 use Rattle.tp_scenario.proofs.servers.each_item.Given as goal

@@ -1,5 +1,5 @@
 use Rattle.std.proofs.Common.{◌≡◌, drop, map}
-use Rattle.serde_json.specs.View.{items_view}
+use Rattle.tp_json.specs.View.{items_view}
 use Rattle.tp_scenario.specs.Values.{through}
 use Rattle.tp_scenario.specs.Servers.{server_in, server_name, item_name, nothing_served}
 use Rattle.tp_scenario.proofs.servers.each_server.Given as goal

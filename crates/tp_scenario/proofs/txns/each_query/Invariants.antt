@@ -1,5 +1,5 @@
 use Rattle.std.proofs.Common.{◌≡◌, [], drop}
-use Rattle.serde_json.specs.View.{items_view}
+use Rattle.tp_json.specs.View.{items_view}
 use Rattle.tp_scenario.specs.Txns.{query_in}
 use Rattle.tp_scenario.specs.Values.{each}
 use Rattle.tp_scenario.proofs.txns.each_query.Given as goal
