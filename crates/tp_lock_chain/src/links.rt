@@ -1,5 +1,5 @@
 //! Rings of nodes by index: two links for each node and each end of a ring, and what they change to.
-ghost use Rattle.std.specs.Prelude.{◌≡◌};
+ghost use Rattle.std.specs.Prelude.{◌≡◌, slice_index_or, slice_set};
 ghost use Rattle.tp_lock_chain.specs.mirrors.Links as mirror;
 
 use tp_lock::{Grant, LockEntry};
@@ -96,8 +96,8 @@ fn end_of(ends: &List<Pair>, ring: usize) -> Pair
     }
 }
 
-fn pair_of(node: Node, kind: Kind) -> Pair
-    ensures { result ≡ mirror.pair_of kind node }
+fn pair_of(node: &Node, kind: Kind) -> Pair
+    ensures { result ≡ mirror.pair_of kind node.now }
 {
     match kind {
         Kind::Item => node.by_item,
@@ -105,18 +105,12 @@ fn pair_of(node: Node, kind: Kind) -> Pair
     }
 }
 
-fn with_pair(node: Node, kind: Kind, pair: Pair) -> Node
-    ensures { result ≡ mirror.with_pair kind pair node }
+fn pair_at(nodes: &List<Node>, kind: Kind, node: usize) -> Pair
+    ensures { result ≡ mirror.pair_of kind (slice_index_or nodes.now node mirror.blank) }
 {
-    match kind {
-        Kind::Item => Node {
-            by_item: pair,
-            ..node
-        },
-        Kind::Owner => Node {
-            by_owner: pair,
-            ..node
-        },
+    match nodes.get(node) {
+        None => pair_of(&blank(), kind),
+        Some(found) => pair_of(found, kind),
     }
 }
 
@@ -129,7 +123,7 @@ pub fn links(pool: &Pool, kind: Kind, spot: Spot) -> Pair
             Kind::Item => end_of(&pool.items, ring),
             Kind::Owner => end_of(&pool.owners, ring),
         },
-        Spot::On(node) => pair_of(node_at(pool, node), kind),
+        Spot::On(node) => pair_at(&pool.nodes, kind, node),
     }
 }
 
@@ -141,9 +135,20 @@ fn set_links(pool: &mut Pool, kind: Kind, spot: Spot, pair: Pair)
             Kind::Item => pool.items.put(ring, pair),
             Kind::Owner => pool.owners.put(ring, pair),
         },
-        Spot::On(node) => {
-            let changed = with_pair(node_at(pool, node), kind, pair);
-            pool.nodes.put(node, changed);
+        Spot::On(node) => set_pair(&mut pool.nodes, kind, node, pair),
+    }
+}
+
+/// Writes the links of a node.
+fn set_pair(nodes: &mut List<Node>, kind: Kind, node: usize, pair: Pair)
+    ensures { nodes.new
+        ≡ slice_set nodes.old node
+        (mirror.with_pair kind pair (slice_index_or nodes.old node mirror.blank)) }
+{
+    if let Some(found) = nodes.get_mut(node) {
+        match kind {
+            Kind::Item => found.by_item = pair,
+            Kind::Owner => found.by_owner = pair,
         }
     }
 }
@@ -195,22 +200,18 @@ pub fn link_before(pool: &mut Pool, kind: Kind, node: usize, spot: Spot)
 pub fn set_ring(pool: &mut Pool, node: usize, ring: u32)
     ensures { pool.new ≡ mirror.with_ring node ring pool.old }
 {
-    let changed = Node {
-        ring,
-        ..node_at(pool, node)
-    };
-    pool.nodes.put(node, changed);
+    if let Some(found) = pool.nodes.get_mut(node) {
+        found.ring = ring;
+    }
 }
 
 /// Writes the entry of a node.
 pub fn set_entry(pool: &mut Pool, node: usize, entry: LockEntry)
     ensures { pool.new ≡ mirror.with_entry node entry pool.old }
 {
-    let changed = Node {
-        entry,
-        ..node_at(pool, node)
-    };
-    pool.nodes.put(node, changed);
+    if let Some(found) = pool.nodes.get_mut(node) {
+        found.entry = entry;
+    }
 }
 
 /// Moves a node from its item's ring to the end of another.

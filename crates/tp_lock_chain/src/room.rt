@@ -4,7 +4,7 @@ ghost use Rattle.tp_lock_chain.specs.mirrors.Pool as mirror;
 ghost use Rattle.tp_lock_chain.specs.mirrors.Room as room;
 
 use crate::links::{Kind, Node, Pair, Pool, Spot, blank, link_before, links};
-use std::alloc::Global;
+use std::alloc::{AllocError, Global};
 use tp_lock::Grant;
 use tp_types::{ItemId, List, NoMemory, TxnId};
 
@@ -18,15 +18,17 @@ fn lone(ring: usize) -> Pair
     }
 }
 
+fn ends_in(alloc: Global, count: usize) -> Result<Vec<Pair>, AllocError>
+    ensures { IfOk result (λ made. made.items ≡ room.ends count) }
+{
+    (0..count).map(lone).collect(alloc)
+}
+
 /// As many ends, each with no node.
 fn ends(alloc: Global, count: usize) -> Result<List<Pair>, NoMemory>
     ensures { IfOk result (λ made. made ≡ room.ends count) }
 {
-    let mut made = List::from_vec(Vec::with_capacity(alloc, count)?);
-    for ring in 0..count {
-        made.push(lone(ring))?;
-    }
-    Ok(made)
+    Ok(List::from_vec(ends_in(alloc, count)?))
 }
 
 /// A pool for so many items, with no node.

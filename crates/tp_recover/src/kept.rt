@@ -35,7 +35,7 @@ fn copied<T: TryClone + Drop>(
 ) -> Result<List<Option<T>>, NoMemory>
     ensures { IfOk result (λ made. made ≡ table.now) }
 {
-    let mut made = List::new(alloc);
+    let mut made = List::from_vec(Vec::with_capacity(alloc, table.len())?);
     for place in table {
         match place {
             None => made.push(None)?,

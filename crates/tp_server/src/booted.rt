@@ -126,7 +126,7 @@ fn entry_of(alloc: Global, vote: &Prepared) -> Result<Entry, NoMemory>
 fn entries_of(alloc: Global, table: &[Option<Prepared>]) -> Result<List<Option<Entry>>, NoMemory>
     ensures { IfOk result (λ made. made ≡ map (option_map booted.restored) table.now) }
 {
-    let mut made = List::new(alloc);
+    let mut made = List::from_vec(Vec::with_capacity(alloc, table.len())?);
     for place in table {
         match place {
             None => made.push(None)?,

@@ -110,7 +110,7 @@ fn verdicts_in<L: LockTable + Drop>(
         made ≡ verdicts.verdicts_on case.now.scenario.now server.now case.now.txn.now
         case.now.staple.now case.now.want.now deeds.now) }
 {
-    let mut made = List::new(alloc);
+    let mut made = List::from_vec(Vec::with_capacity(alloc, deeds.len())?);
     for deed in deeds {
         made.push(verdict_on(alloc, case, server, *deed)?)?;
     }

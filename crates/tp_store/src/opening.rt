@@ -4,33 +4,45 @@ ghost use Rattle.tp_model.specs.SerialRun.{opening_value};
 ghost use Rattle.tp_store.specs.Rule as rule;
 
 use crate::writes::{Bounds, TentativeWrite};
-use std::alloc::Global;
+use std::alloc::{AllocError, Global};
 use tp_types::{Item, List, NoMemory, Scenario, ServerId, TryClone, Version};
+
+fn bounds_of_item(item: &Item) -> Bounds
+    ensures { result ≡ rule.bounds_of item.now }
+{
+    Bounds {
+        min: item.min,
+        max: item.max,
+    }
+}
+
+fn bounds_in(alloc: Global, items: &[Item]) -> Result<Vec<Bounds>, AllocError>
+    ensures { IfOk result (λ made. made.items ≡ map rule.bounds_of items.now) }
+{
+    items.iter().map(bounds_of_item).collect(alloc)
+}
 
 /// The range of each item.
 pub fn bounds_of(alloc: Global, items: &[Item]) -> Result<List<Bounds>, NoMemory>
     ensures { IfOk result (λ made. made ≡ map rule.bounds_of items.now) }
 {
-    let mut made = List::from_vec(Vec::with_capacity(alloc, items.len())?);
-    for item in items {
-        let bounds = Bounds {
-            min: item.min,
-            max: item.max,
-        };
-        made.push(bounds)?;
-    }
-    Ok(made)
+    Ok(List::from_vec(bounds_in(alloc, items)?))
+}
+
+fn values_in(alloc: Global, items: &[Item]) -> Result<Vec<i128>, AllocError>
+    ensures { IfOk result (λ made. made.items ≡ map opening_value items.now) }
+{
+    items
+        .iter()
+        .map(|item| i128::from(item.value))
+        .collect(alloc)
 }
 
 /// The opening value of each item.
 pub fn opening_values(alloc: Global, items: &[Item]) -> Result<List<i128>, NoMemory>
     ensures { IfOk result (λ made. made ≡ map opening_value items.now) }
 {
-    let mut made = List::from_vec(Vec::with_capacity(alloc, items.len())?);
-    for item in items {
-        made.push(i128::from(item.value))?;
-    }
-    Ok(made)
+    Ok(List::from_vec(values_in(alloc, items)?))
 }
 
 /// The versions that the scenario says the server knows.
