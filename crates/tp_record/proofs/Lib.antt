@@ -1,6 +1,7 @@
 pub mod Bodies
 pub mod Cases
 pub mod CausesRead
+pub mod CountLemmas
 pub mod Exact
 pub mod Generic
 pub mod KindsRead

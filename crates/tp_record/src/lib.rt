@@ -12,7 +12,7 @@
 //!   begins another (`one_spelling`)
 #![tactic(auto)]
 
-ghost use Rattle.std.specs.Prelude.{◌≡◌, ◌++◌, ℕ, List, length, Some, IfOk, IfNone, IfSome, OnOk};
+ghost use Rattle.std.specs.Prelude.{◌≡◌, ◌≤◌, ◌++◌, ℕ, List, length, drop, Some, IfOk, IfNone, IfSome, OnOk};
 ghost use Rattle.tp_types.specs.declared.records.Record.{Record};
 ghost use Rattle.tp_record.specs.Ranges.{IsInRange};
 ghost use Rattle.tp_record.specs.Records.{Begins, IsRecord};
@@ -31,24 +31,36 @@ use spelled::{Spelled, write_count};
 use std::alloc::Global;
 use tp_types::{List, NoMemory, Record, Text};
 
-/// Room for the content of a usual record, in bytes, so that it does not grow as it is written.
+/// Room for a usual record and the one byte that a log puts behind it, in bytes, so that it does not grow as it is
+/// written.
 const USUAL: usize = 256;
+
+/// Puts a count into the first four bytes.
+#[tactic(auto, unfolding(crate::specs::Spelling::short))]
+fn set_count(bytes: &mut [u8], count: usize)
+    requires { 4 ≤ length bytes.old }
+    ensures { bytes.new ≡ spell.short count ++ drop 4 bytes.old }
+{
+    let count = (count as u64).to_be_bytes();
+    bytes[..4].copy_from_slice(&count[4..]);
+}
 
 /// The one spelling of a record. It is meant for records whose spelling has fewer than 2^32 bytes: of a longer one
 /// the length field has the lowest 32 bits, and no reader finds the record again.
 /// It asks nothing of the record, since a log has to tell one that is too long from one that fits, and so spells
 /// it first. Of a record of 2^32 bytes or more a length field or a count has the lowest 32 bits, and no reader
 /// finds it again.
+#[tactic(auto, using(crate::proofs::CountLemmas::counted_length))]
 pub fn encode(alloc: Global, r: &Record) -> Result<Text, NoMemory>
     ensures spelled { IfOk result (λ text. text.0 ≡ spell.spelling r.now) }
     ensures range { OnOk result (IsInRange r.now) }
 {
-    let mut content = Vec::with_capacity(alloc, USUAL)?;
-    r.write_to(&mut content)?;
-    // a log puts one byte behind the body
-    let mut body = Vec::with_capacity(alloc, content.len().saturating_add(5))?;
-    write_count(&mut body, content.len())?;
-    body.extend_from_slice(&content)?;
+    let mut body = Vec::with_capacity(alloc, USUAL)?;
+    // the length is known once the content is written behind it
+    write_count(&mut body, 0)?;
+    r.write_to(&mut body)?;
+    let count = body.len() - 4;
+    set_count(&mut body, count);
     Ok(Text(List::from_vec(body)))
 }
 
