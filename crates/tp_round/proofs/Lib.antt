@@ -12,5 +12,6 @@ pub mod QueryLemmas
 pub mod RenewLemmas
 pub mod ReplyLemmas
 pub mod RoundsLemmas
+pub mod SortedLemmas
 pub mod SpentLemmas
 pub mod VersionLemmas

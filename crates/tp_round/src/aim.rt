@@ -62,7 +62,7 @@ pub fn aim_of(
         (replies.proofs_in targets.now)) }
 {
     let admins = admins_of(alloc, targets)?;
-    let mut made = List::new(alloc);
+    let mut made = List::from_vec(Vec::with_capacity(alloc, admins.len())?);
     for admin in admins.as_slice() {
         made.push((*admin, target(levels, reading, targets, *admin)))?;
     }
@@ -103,7 +103,7 @@ fn is_proved_by(target: &Target, admin: AdminId) -> bool
 fn wanted(alloc: Global, aim: &[(AdminId, Version)], target: &Target) -> Result<Wanted, NoMemory>
     ensures { IfOk result (λ made. made ≡ rule.want_of aim.now target.now) }
 {
-    let mut want = List::new(alloc);
+    let mut want = List::from_vec(Vec::with_capacity(alloc, aim.len())?);
     for aimed in aim {
         if is_proved_by(target, aimed.0) {
             want.push(*aimed)?;
@@ -123,7 +123,7 @@ pub fn named_by(
 ) -> Result<List<Wanted>, NoMemory>
     ensures { IfOk result (λ made. made ≡ rule.wants_of aim.now targets.now) }
 {
-    let mut named = List::new(alloc);
+    let mut named = List::from_vec(Vec::with_capacity(alloc, targets.len())?);
     for target in targets {
         if is_outdated(aim, target) {
             named.push(wanted(alloc, aim, target)?)?;

@@ -86,17 +86,15 @@ pub struct Round {
 fn levels_of(alloc: Global, level: Level) -> Result<List<Level>, NoMemory>
     ensures { IfOk result (λ made. made ≡ replicate admins_limit level) }
 {
-    let mut made = List::new(alloc);
-    for _admin in 0..ADMINS_MAX {
-        made.push(level)?;
-    }
-    Ok(made)
+    let mut made = Vec::with_capacity(alloc, ADMINS_MAX)?;
+    made.resize(ADMINS_MAX, level)?;
+    Ok(List::from_vec(made))
 }
 
 fn awaited(alloc: Global, servers: &[ServerId]) -> Result<List<Target>, NoMemory>
     ensures { IfOk result (λ made. made ≡ map rule.new_target servers.now) }
 {
-    let mut made = List::new(alloc);
+    let mut made = List::from_vec(Vec::with_capacity(alloc, servers.len())?);
     for server in servers {
         made.push(Target {
             server: *server,
