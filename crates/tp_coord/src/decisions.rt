@@ -8,6 +8,7 @@ ghost use Rattle.tp_coord.specs.Row as row;
 
 use crate::coordinator::{Coordinator, Phase};
 use std::alloc::Global;
+use std::mem;
 use tp_types::{
     Actor, Body, Cause, CommitRecord, DecideRequest, Decided, Decision, Denied, Letter, List,
     NoMemory, Outcome, Reaction, Record, ServerId, TryClone, Verdict, both, ignored, nothing,
@@ -96,7 +97,7 @@ impl Coordinator {
         ensures { IfOk result (λ letters.
             letters ≡ row.decide_letters self.now outcome servers.now) }
     {
-        let mut letters = List::new(alloc);
+        let mut letters = List::from_vec(Vec::with_capacity(alloc, servers.len())?);
         for server in servers {
             letters.push(self.decide_letter(outcome, *server))?;
         }
@@ -143,7 +144,7 @@ impl Coordinator {
                 outcome: _,
                 awaited,
             } => {
-                *awaited = without(alloc, awaited.as_slice(), server)?;
+                *awaited = without(mem::replace(awaited, List::new(alloc)), server);
                 Ok(nothing(alloc))
             }
             _ => Ok(ignored(alloc)),
@@ -151,19 +152,13 @@ impl Coordinator {
     }
 }
 
-pub(crate) fn without(
-    alloc: Global,
-    awaited: &[ServerId],
-    server: ServerId,
-) -> Result<List<ServerId>, NoMemory>
-    ensures { IfOk result (λ left. left ≡ row.without awaited.now server) }
+/// The servers that are still awaited, without this one. It takes no memory.
+pub(crate) fn without(awaited: List<ServerId>, server: ServerId) -> List<ServerId>
+    ensures { result ≡ row.without awaited server }
 {
-    let left: Vec<ServerId> = awaited
-        .iter()
-        .copied()
-        .filter(|other| other.0 != server.0)
-        .collect(alloc)?;
-    Ok(List::from_vec(left))
+    let mut left = awaited.into_vec();
+    left.retain(|other| other.0 != server.0);
+    List::from_vec(left)
 }
 
 /// What a false verdict denies.

@@ -180,7 +180,7 @@ impl Coordinator {
         ensures { IfOk result (λ letters.
             letters ≡ row.round_letters self.now span turn round.now staple.now) }
     {
-        let mut letters = List::new(alloc);
+        let mut letters = List::from_vec(Vec::with_capacity(alloc, round.targets.len())?);
         for target in round.targets.as_slice() {
             if target.reply.is_none() {
                 let letter = self.round_letter(alloc, span, turn, round, staple, target.server)?;

@@ -38,7 +38,7 @@ impl Coordinator {
         ensures { IfOk result (λ letters.
             letters ≡ row.vote_letters self.now turn servers.now) }
     {
-        let mut letters = List::new(alloc);
+        let mut letters = List::from_vec(Vec::with_capacity(alloc, servers.len())?);
         for server in servers {
             letters.push(self.vote_letter(alloc, turn, *server))?;
         }
@@ -109,8 +109,7 @@ impl Coordinator {
                 verdicts,
             ),
             Phase::Voting { awaited } => {
-                let left = without(alloc, awaited.as_slice(), server)?;
-                drop(awaited);
+                let left = without(awaited, server);
                 self.votes_left(alloc, scenario, left)
             }
             other => {
