@@ -5,7 +5,7 @@ ghost use Rattle.tp_report.specs.ReportText.{cause_tokens, earlier_met_tokens, m
 ghost use Rattle.tp_report.specs.Tokens.{text_of};
 
 use crate::piece::{
-    put, put_admin, put_at, put_number, put_policy, put_query, put_server, put_txn,
+    put, put_admin, put_at, put_byte, put_number, put_policy, put_query, put_server, put_txn,
 };
 use tp_types::{Cause, Denied, Died, List, Met, Newer, NoMemory, OutOfRange, Scenario, ServerId};
 
@@ -47,7 +47,7 @@ fn put_no(out: &mut Vec<u8>, scenario: &Scenario, outside: &OutOfRange) -> Resul
     put(out, b"no ")?;
     put_query(out, scenario, outside.query, outside.server)?;
     put_number(out, outside.value)?;
-    put(out, b"\n")
+    put_byte(out, b'\n')
 }
 
 fn put_died(out: &mut Vec<u8>, scenario: &Scenario, died: &Died) -> Result<(), NoMemory>
@@ -58,7 +58,7 @@ fn put_died(out: &mut Vec<u8>, scenario: &Scenario, died: &Died) -> Result<(), N
     put(out, b"died ")?;
     put_query(out, scenario, died.query, died.server)?;
     put_txn(out, scenario, died.other)?;
-    put(out, b" ")?;
+    put_byte(out, b' ')?;
     put_at(out, died.place)
 }
 
@@ -69,11 +69,11 @@ fn put_newer(out: &mut Vec<u8>, scenario: &Scenario, newer: &Newer) -> Result<()
 {
     put(out, b"newer ")?;
     put_admin(out, scenario, newer.admin)?;
-    put(out, b" ")?;
+    put_byte(out, b' ')?;
     put_number(out, newer.used.0)?;
-    put(out, b" ")?;
+    put_byte(out, b' ')?;
     put_number(out, newer.found.0)?;
-    put(out, b"\n")
+    put_byte(out, b'\n')
 }
 
 fn put_restarted(out: &mut Vec<u8>, scenario: &Scenario, server: ServerId) -> Result<(), NoMemory>
@@ -83,7 +83,7 @@ fn put_restarted(out: &mut Vec<u8>, scenario: &Scenario, server: ServerId) -> Re
 {
     put(out, b"restarted ")?;
     put_server(out, scenario, server)?;
-    put(out, b"\n")
+    put_byte(out, b'\n')
 }
 
 fn put_rounds(out: &mut Vec<u8>, scenario: &Scenario, mets: &List<Met>) -> Result<(), NoMemory>
@@ -96,7 +96,7 @@ fn put_rounds(out: &mut Vec<u8>, scenario: &Scenario, mets: &List<Met>) -> Resul
             put(out, b"rounds ")?;
             put_earlier_mets(out, scenario, others)?;
             put_met(out, scenario, last)?;
-            put(out, b"\n")
+            put_byte(out, b'\n')
         }
     }
 }
@@ -122,9 +122,9 @@ fn put_met(out: &mut Vec<u8>, scenario: &Scenario, met: &Met) -> Result<(), NoMe
         ≡ out.old.items ++ (text_of (met_front scenario.now met.now) ++ decimal met.now.place)) }
 {
     put_admin(out, scenario, met.admin)?;
-    put(out, b" ")?;
+    put_byte(out, b' ')?;
     put_number(out, met.used.0)?;
-    put(out, b" ")?;
+    put_byte(out, b' ')?;
     put_number(out, met.newest.0)?;
     put(out, b" at ")?;
     put_number(out, met.place)

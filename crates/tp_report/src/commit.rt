@@ -4,7 +4,7 @@ ghost use Rattle.std.specs.List.{flat_map};
 ghost use Rattle.tp_report.specs.ReportText.{action_word, commit_line, commit_tokens, deed_front, deed_line, deed_tokens, earlier_use, instance_front, instance_line, instance_tokens, instances_tokens, proof_front, proof_line, proof_tokens, reading_word, rule_word, uses_tokens};
 ghost use Rattle.tp_report.specs.Tokens.{text_of};
 
-use crate::piece::{put, put_cred, put_item, put_number, put_policy, put_query, put_txn};
+use crate::piece::{put, put_byte, put_cred, put_item, put_number, put_policy, put_query, put_txn};
 use tp_types::{
     Action, CommitRecord, CredId, Deed, Instance, List, NoMemory, Place, Scenario, TxnId, Verdict,
 };
@@ -38,7 +38,7 @@ pub(crate) fn put_commit_line(
     put_txn(out, scenario, txn)?;
     put(out, b" rounds ")?;
     put_number(out, held.rounds)?;
-    put(out, b"\n")
+    put_byte(out, b'\n')
 }
 
 #[tactic(auto, using(crate::proofs::TokenLemmas::text_append))]
@@ -86,7 +86,7 @@ pub fn put_instance_line(
     put_instance_front(out, number)?;
     put(out, b"reading ")?;
     put_reading(out, reading)?;
-    put(out, b"\n")
+    put_byte(out, b'\n')
 }
 
 fn put_instance_front(out: &mut Vec<u8>, number: usize) -> Result<(), NoMemory>
@@ -94,7 +94,7 @@ fn put_instance_front(out: &mut Vec<u8>, number: usize) -> Result<(), NoMemory>
 {
     put(out, b"instance ")?;
     put_number(out, number)?;
-    put(out, b" ")
+    put_byte(out, b' ')
 }
 
 fn put_reading(out: &mut Vec<u8>, reading: Option<Place>) -> Result<(), NoMemory>
@@ -158,7 +158,7 @@ fn put_proof_front(out: &mut Vec<u8>, scenario: &Scenario, proof: &Verdict) -> R
     put_policy(out, scenario, proof.admin, proof.version)?;
     put(out, b"at ")?;
     put_number(out, proof.place)?;
-    put(out, b" ")
+    put_byte(out, b' ')
 }
 
 /// Puts the rule of a proof. A false proof has none; no commit rests on one.
@@ -181,7 +181,7 @@ fn put_uses(out: &mut Vec<u8>, scenario: &Scenario, uses: &List<CredId>) -> Resu
         Some((last, others)) => {
             put_creds(out, scenario, others)?;
             put_cred(out, scenario, *last)?;
-            put(out, b"\n")
+            put_byte(out, b'\n')
         }
     }
 }
@@ -194,7 +194,7 @@ fn put_creds(out: &mut Vec<u8>, scenario: &Scenario, uses: &[CredId]) -> Result<
 {
     for cred in uses {
         put_cred(out, scenario, *cred)?;
-        put(out, b" ")?;
+        put_byte(out, b' ')?;
     }
     Ok(())
 }
@@ -226,9 +226,9 @@ pub fn put_deed_line(out: &mut Vec<u8>, scenario: &Scenario, deed: &Deed) -> Res
 {
     put_deed_front(out, deed)?;
     put_item(out, scenario, deed.item)?;
-    put(out, b" ")?;
+    put_byte(out, b' ')?;
     put_number(out, deed.value)?;
-    put(out, b"\n")
+    put_byte(out, b'\n')
 }
 
 fn put_deed_front(out: &mut Vec<u8>, deed: &Deed) -> Result<(), NoMemory>
@@ -237,7 +237,7 @@ fn put_deed_front(out: &mut Vec<u8>, deed: &Deed) -> Result<(), NoMemory>
     put_action(out, deed.action)?;
     put(out, b" q")?;
     put_number(out, deed.query)?;
-    put(out, b" ")
+    put_byte(out, b' ')
 }
 
 fn put_action(out: &mut Vec<u8>, action: Action) -> Result<(), NoMemory>

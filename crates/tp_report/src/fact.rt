@@ -5,7 +5,9 @@ ghost use Rattle.tp_report.specs.Tokens.{last_word, text_of, word};
 
 use crate::cause::put_cause;
 use crate::commit::{put_commit, put_commit_line};
-use crate::piece::{put, put_actor, put_admin, put_cred, put_number, put_server, put_txn};
+use crate::piece::{
+    put, put_actor, put_admin, put_byte, put_cred, put_number, put_server, put_txn,
+};
 use tp_types::{
     Actor, AdminId, Cause, CredId, Decision, Fact, NoMemory, Outcome, Scenario, ServerId, TxnId,
     Version, What,
@@ -15,7 +17,7 @@ pub(crate) fn put_fact(out: &mut Vec<u8>, scenario: &Scenario, fact: &Fact) -> R
     ensures { OnOk result (out.new.items ≡ out.old.items ++ text_of (fact_tokens scenario.now fact.now)) }
 {
     put_number(out, fact.place)?;
-    put(out, b" ")?;
+    put_byte(out, b' ')?;
     put_what(out, scenario, &fact.what)
 }
 
@@ -50,7 +52,7 @@ fn put_submitted(out: &mut Vec<u8>, scenario: &Scenario, txn: TxnId) -> Result<(
 {
     put(out, b"submit ")?;
     put_txn(out, scenario, txn)?;
-    put(out, b"\n")
+    put_byte(out, b'\n')
 }
 
 fn put_published(
@@ -64,9 +66,9 @@ fn put_published(
 {
     put(out, b"publish ")?;
     put_admin(out, scenario, admin)?;
-    put(out, b" ")?;
+    put_byte(out, b' ')?;
     put_number(out, version.0)?;
-    put(out, b"\n")
+    put_byte(out, b'\n')
 }
 
 fn put_revoked(out: &mut Vec<u8>, scenario: &Scenario, cred: CredId) -> Result<(), NoMemory>
@@ -75,7 +77,7 @@ fn put_revoked(out: &mut Vec<u8>, scenario: &Scenario, cred: CredId) -> Result<(
 {
     put(out, b"revoke ")?;
     put_cred(out, scenario, cred)?;
-    put(out, b"\n")
+    put_byte(out, b'\n')
 }
 
 fn put_ticked(out: &mut Vec<u8>, by: u64) -> Result<(), NoMemory>
@@ -84,7 +86,7 @@ fn put_ticked(out: &mut Vec<u8>, by: u64) -> Result<(), NoMemory>
 {
     put(out, b"tick ")?;
     put_number(out, by)?;
-    put(out, b"\n")
+    put_byte(out, b'\n')
 }
 
 fn put_crashed(out: &mut Vec<u8>, scenario: &Scenario, actor: Actor) -> Result<(), NoMemory>
@@ -93,7 +95,7 @@ fn put_crashed(out: &mut Vec<u8>, scenario: &Scenario, actor: Actor) -> Result<(
 {
     put(out, b"crash ")?;
     put_actor(out, scenario, actor)?;
-    put(out, b"\n")
+    put_byte(out, b'\n')
 }
 
 fn put_lost(out: &mut Vec<u8>, mail: u64) -> Result<(), NoMemory>
@@ -102,7 +104,7 @@ fn put_lost(out: &mut Vec<u8>, mail: u64) -> Result<(), NoMemory>
 {
     put(out, b"lose ")?;
     put_number(out, mail)?;
-    put(out, b"\n")
+    put_byte(out, b'\n')
 }
 
 fn put_decided(
@@ -132,7 +134,7 @@ fn put_abort(
 {
     put(out, b"abort ")?;
     put_txn(out, scenario, txn)?;
-    put(out, b" ")?;
+    put_byte(out, b' ')?;
     put_cause(out, scenario, cause)
 }
 
@@ -149,11 +151,11 @@ fn put_settled(
 {
     put(out, b"settle ")?;
     put_server(out, scenario, server)?;
-    put(out, b" ")?;
+    put_byte(out, b' ')?;
     put_txn(out, scenario, txn)?;
-    put(out, b" ")?;
+    put_byte(out, b' ')?;
     put_outcome(out, outcome)?;
-    put(out, b"\n")
+    put_byte(out, b'\n')
 }
 
 fn put_outcome(out: &mut Vec<u8>, outcome: Outcome) -> Result<(), NoMemory>

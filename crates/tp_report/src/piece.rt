@@ -1,6 +1,6 @@
 //! The pieces that lines are made of: bytes, numbers, and names of the scenario.
 //! An id that the scenario does not have prints as nothing.
-ghost use Rattle.std.specs.Prelude.{◌≡◌, ◌++◌, OnOk};
+ghost use Rattle.std.specs.Prelude.{◌≡◌, ◌++◌, ◌∷◌, [], OnOk};
 ghost use Rattle.tp_report.specs.ReportText.{actor_name, admin_name, at_tokens, cred_name, item_name, policy_tokens, query_tokens, server_name, txn_name};
 ghost use Rattle.tp_report.specs.Tokens.{text_of};
 
@@ -13,6 +13,14 @@ pub fn put(out: &mut Vec<u8>, piece: &[u8]) -> Result<(), NoMemory>
     ensures { OnOk result (out.new.items ≡ out.old.items ++ piece.now) }
 {
     out.extend_from_slice(piece)?;
+    Ok(())
+}
+
+/// Puts one byte.
+pub(crate) fn put_byte(out: &mut Vec<u8>, byte: u8) -> Result<(), NoMemory>
+    ensures { OnOk result (out.new.items ≡ out.old.items ++ byte ∷ []) }
+{
+    out.push(byte)?;
     Ok(())
 }
 
@@ -90,11 +98,11 @@ pub(crate) fn put_query(
     ensures { OnOk result
         (out.new.items ≡ out.old.items ++ text_of (query_tokens scenario.now query server)) }
 {
-    put(out, b"q")?;
+    put_byte(out, b'q')?;
     put_number(out, query)?;
-    put(out, b" ")?;
+    put_byte(out, b' ')?;
     put_server(out, scenario, server)?;
-    put(out, b" ")
+    put_byte(out, b' ')
 }
 
 /// Puts an administrator and a version of its policy, each with a space behind it.
@@ -108,9 +116,9 @@ pub(crate) fn put_policy(
         (out.new.items ≡ out.old.items ++ text_of (policy_tokens scenario.now admin version)) }
 {
     put_admin(out, scenario, admin)?;
-    put(out, b" ")?;
+    put_byte(out, b' ')?;
     put_number(out, version.0)?;
-    put(out, b" ")
+    put_byte(out, b' ')
 }
 
 /// Puts the place of a step, and ends the line.
@@ -119,5 +127,5 @@ pub(crate) fn put_at(out: &mut Vec<u8>, place: Place) -> Result<(), NoMemory>
 {
     put(out, b"at ")?;
     put_number(out, place)?;
-    put(out, b"\n")
+    put_byte(out, b'\n')
 }

@@ -6,7 +6,7 @@ ghost use Rattle.tp_report.specs.Laws.{TellsOneHistory};
 ghost use Rattle.tp_report.specs.Tokens.{text_of};
 
 use crate::fact::put_fact;
-use crate::piece::{put, put_item, put_number};
+use crate::piece::{put, put_byte, put_item, put_number};
 use std::alloc::Global;
 use tp_types::{Ending, Fact, ItemId, List, NoMemory, Scenario, ServerDecl, Text};
 
@@ -93,11 +93,11 @@ fn put_item_line(
 {
     put(out, b"item ")?;
     put(out, server)?;
-    put(out, b" ")?;
+    put_byte(out, b' ')?;
     put_item(out, scenario, item)?;
-    put(out, b" ")?;
+    put_byte(out, b' ')?;
     put_value(out, ending, item)?;
-    put(out, b"\n")
+    put_byte(out, b'\n')
 }
 
 fn put_value(out: &mut Vec<u8>, ending: &Ending, item: ItemId) -> Result<(), NoMemory>
@@ -114,9 +114,9 @@ fn put_quiet(out: &mut Vec<u8>, ending: &Ending) -> Result<(), NoMemory>
 {
     put(out, b"quiet ")?;
     put_number(out, ending.steps)?;
-    put(out, b" ")?;
+    put_byte(out, b' ')?;
     put_number(out, ending.mails)?;
-    put(out, b"\n")
+    put_byte(out, b'\n')
 }
 
 /// Facts and an ending can be read back from their report: two printable pairs with one text are equal, for a valid scenario whose
