@@ -500,7 +500,7 @@ fn item_values(
     ensures { IfOk result (λ values.
         values ≡ machine.item_values scenario.now servers.now 0 items.now) }
 {
-    let mut values = List::new(alloc);
+    let mut values = List::from_vec(Vec::with_capacity(alloc, items.len())?);
     for (at, item) in items.iter().enumerate() {
         values.push(item_value(alloc, scenario, servers, at, item)?)?;
     }
@@ -552,7 +552,7 @@ fn opened_servers(alloc: Global, scenario: &Scenario) -> Result<List<Part<Server
     ensures { IfOk result (λ made.
         made ≡ machine.opened_servers scenario.now (length scenario.now.servers)) }
 {
-    let mut made = List::new(alloc);
+    let mut made = List::from_vec(Vec::with_capacity(alloc, scenario.servers.len())?);
     for number in 0..scenario.servers.len() as u32 {
         let locks = Locks::opened(alloc, scenario.items.len())?;
         let server = Server::opened(alloc, scenario, ServerId(number), locks)?;
@@ -571,7 +571,7 @@ fn idle_coordinators(
     ensures { IfOk result (λ made.
         made ≡ machine.idle_coordinators scenario.now (length scenario.now.txns)) }
 {
-    let mut made = List::new(alloc);
+    let mut made = List::from_vec(Vec::with_capacity(alloc, scenario.txns.len())?);
     for number in 0..scenario.txns.len() as u32 {
         let coordinator = Coordinator::idle(alloc, scenario, TxnId(number))?;
         made.push(Part::opened(alloc, coordinator)?)?;

@@ -1,6 +1,7 @@
 //! An actor with its log, and what it does to both when it acts.
-ghost use Rattle.std.specs.Prelude.{◌≡◌, ◌+◌, ◌<◌, ◌^◌, [], ◌∷◌, ◌++◌, List, Some, None, false, true, length, IfOk, IfSome, OnErr, OnOk};
+ghost use Rattle.std.specs.Prelude.{◌≡◌, ◌+◌, ◌<◌, ◌≤◌, ◌^◌, [], ◌∷◌, ◌++◌, List, Some, None, false, true, length, IfOk, IfSome, OnErr, OnOk};
 ghost use Rattle.std.specs.Option.{option_copied, option_map_or};
+ghost use Rattle.std.specs.Vec.{vec_capacity, vec_len};
 ghost use Rattle.tp_coord.specs.Booted.{boot_row};
 ghost use Rattle.tp_lock.specs.Rule as lock;
 ghost use Rattle.tp_machine.specs.Fits.{FitsLog, HasShortLog};
@@ -325,10 +326,9 @@ pub fn coordinator_takes(
         return Ok(no_act(alloc));
     };
     let Reaction { append, letters } = coordinator.receive(alloc, scenario, mail)?;
-    let happened = coordinator_facts(alloc, &append);
-    match noted(part, alloc, &append, happened) {
-        Ok(happened) => {
-            drop(append);
+    match forced_with_room(part, alloc, &append) {
+        Ok(room) => {
+            let happened = coordinator_facts_in(room, append);
             Ok(Act { happened, letters })
         }
         Err(NoMemory) => {
@@ -588,6 +588,59 @@ fn server_facts(
             List::of_one(alloc, What::Settled(at, settled.txn, settled.outcome))
         }
         _ => Ok(List::new(alloc)),
+    }
+}
+
+/// Forces what a coordinator's act gives, once there is room for what it decides, which is the record's own: a commit
+/// with all its proofs is not copied. After NoMemory nothing was forced.
+fn forced_with_room<S: Drop>(
+    part: &mut Part<S>,
+    alloc: Global,
+    append: &Option<Record>,
+) -> Result<Vec<What>, NoMemory>
+    requires { IfSome append.now FitsLog }
+    ensures forced { OnOk result (part.new ≡ record part.old {
+      log = machine.log_with part.old.log append.now;
+    }) }
+    ensures empty { IfOk result (λ room. vec_len room ≡ 0) }
+    ensures room { IfOk result (λ room. acts.decisions append.now ≤ vec_capacity room) }
+    ensures err { OnErr result (part.new ≡ part.old) }
+{
+    let room = Vec::with_capacity(alloc, decisions(append))?;
+    match part.force(alloc, append) {
+        Ok(()) => Ok(room),
+        Err(NoMemory) => {
+            drop(room);
+            Err(NoMemory)
+        }
+    }
+}
+
+/// How many decisions a record is.
+fn decisions(append: &Option<Record>) -> usize
+    ensures { result ≡ acts.decisions append.now }
+{
+    match append {
+        Some(Record::Decided(_)) => 1,
+        _ => 0,
+    }
+}
+
+/// The decision that the log has gained, if there is one, in room for it.
+fn coordinator_facts_in(mut room: Vec<What>, append: Option<Record>) -> List<What>
+    requires empty { vec_len room ≡ 0 }
+    requires room { acts.decisions append ≤ vec_capacity room }
+    ensures { result ≡ option_map_or machine.coordinator_fact append [] }
+{
+    match append {
+        Some(Record::Decided(decided)) => {
+            room.push_reserved(What::Decided(decided.txn, decided.decision));
+            List::from_vec(room)
+        }
+        other => {
+            drop(other);
+            List::from_vec(room)
+        }
     }
 }
 

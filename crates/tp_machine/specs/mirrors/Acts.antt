@@ -1,7 +1,8 @@
 -- What the code of an act promises: it did what the machine says.
-use Rattle.std.specs.Prelude.{◌≡◌, ◌⊎◌, Option, Some, None, map, slice_get, slice_set}
+use Rattle.std.specs.Prelude.{◌≡◌, ◌⊎◌, ℕ, Option, Some, None, map, slice_get, slice_set}
 use Rattle.tp_model.specs.Words.actor
-use Rattle.tp_model.specs.Words.{Actor, ServerId, TxnId}
+use Rattle.tp_model.specs.Words.log
+use Rattle.tp_model.specs.Words.{Actor, Record, ServerId, TxnId}
 use Rattle.tp_coord.specs.State.{Coordinator}
 use Rattle.tp_server.specs.State.{Server}
 use Rattle.tp_machine.specs.declared.actors.Actors.{Actors}
@@ -15,6 +16,11 @@ pub record Acts {S : Type 0} (move : PartMove S) (part : Part S) (act : Act) : T
   pub part_is : part ≡ move.part
   pub happened_is : act.happened ≡ move.happened
   pub letters_are : act.letters ≡ move.letters
+
+-- how many decisions a record is
+abbrev pub decisions : Option Record → ℕ
+decisions (Some (log.Decided _)) = 1
+decisions _ = 0
 
 -- the actors made this move
 pub record Moves (move : Move) (actors : Actors) (act : Act) : Type 0 where
