@@ -1,5 +1,5 @@
 -- What the code finds by what it noted before a step are the lines of its block.
-use Rattle.std.proofs.Common.{◌≡◌, ◌∙◌, ℕ, ℤ, ◌+◌, ◌-◌, List, [], ◌∷◌, ◌++◌, length, take, drop, map, Option, Some, None, slice_get, refl, sym, ap, subst, Bool, if◌then◌else◌, arith}
+use Rattle.std.proofs.Common.{◌≡◌, ◌∙◌, ℕ, ℤ, ◌+◌, ◌-◌, List, [], ◌∷◌, ◌++◌, length, take, drop, map, Option, Some, None, slice_get, refl, sym, ap, subst, Bool, true, false, if◌then◌else◌, arith}
 use Rattle.std.proofs.lemmas.Bool.Decides.{Decides-int_eq}
 use Rattle.std.proofs.lemmas.List.{append-nil, append_assoc, drop_at, length-append, take-append-le, take_all}
 use Rattle.std.specs.Prelude.{is_some}
@@ -13,12 +13,14 @@ use Rattle.tp_model.specs.Words.actor
 use Rattle.tp_server.specs.State.{Server}
 use Rattle.tp_trace.specs.Blocks.{acting, block, durable_lines, fate_lines, gained, lines_between, mail_at, now_lines, server_now, state_lines, step_kind}
 use Rattle.tp_trace.specs.Lines.{Line, line_of, lines_text, mail_line}
-use Rattle.tp_trace.specs.Seen.{changed_lines, item_line, items_of, left_lines, seen_up, value_if, values_from, values_left}
+use Rattle.tp_trace.specs.Seen.{changed_lines, item_line, items_of, left_lines, seen_lines, seen_of, seen_up, value_if, values_from, values_left}
 use Rattle.tp_trace.specs.Steps.{step_text}
 use Rattle.tp_trace.specs.Told.{all_told}
 use Rattle.tp_trace.specs.declared.blocks.Noted.{Noted}
 use Rattle.tp_trace.specs.declared.lines.Kind.TheVariants as kind
-use Rattle.tp_trace.specs.mirrors.Noted.{HasMore, IsMore, begun, changed_from, durable_from, end_of, left_from, lines_from, log_before, noted_of, now_from, server_from, state_from}
+use Rattle.tp_trace.specs.declared.seen.Seen.{Seen}
+use Rattle.tp_trace.specs.mirrors.Noted.{HasMore, IsMore, begun, changed_from, durable_from, end_of, is_crash, left_from, lines_from, log_before, noted_of, now_from, seen_before, server_from, state_from}
+use Rattle.tp_trace.proofs.CrashLemmas.{down_after}
 use Rattle.tp_trace.proofs.GrowLemmas.{HasGrown, log_grows}
 use Rattle.tp_trace.proofs.LineLemmas.{lines_append}
 
@@ -91,12 +93,28 @@ left_grown sc place at old new grown =
     ap (λ (records : List Record). left_from sc place at (drop (length old) new) records) (whole old new grown)
     ∙ (left_is sc place at old (drop (length old) new) ∙ ap (λ (records : List Record). left_lines sc place at old records) (sym (whole old new grown)))
 
-changed_is : (sc : Scenario) (place : ℕ) (at : ServerId) (before after : Option Server) (old new : List Record) → HasGrown old new
-    → changed_from sc place at (is_some before) (seen_up (items_of sc at) before) after (drop (length old) new) new ≡ changed_lines sc place at before after old new
-changed_is sc place at None None old new grown = refl
-changed_is sc place at (Some b) None old new grown = left_grown sc place at old new grown
-changed_is sc place at None (Some s) old new grown = refl
-changed_is sc place at (Some b) (Some s) old new grown = refl
+-- where the server is up after the step, what was seen of it is what is to be seen
+SeenIfUp : Scenario → ServerId → Seen → Option Server → Option Server → Type 0
+SeenIfUp sc at seen before None = Unit {0}
+SeenIfUp sc at seen before (Some s) = seen ≡ seen_up (items_of sc at) before
+
+changed_is : (sc : Scenario) (place : ℕ) (at : ServerId) (seen : Seen) (before after : Option Server) (old new : List Record) → HasGrown old new → SeenIfUp sc at seen before after
+    → changed_from sc place at (is_some before) seen after (drop (length old) new) new ≡ changed_lines sc place at before after old new
+unfolding SeenIfUp
+changed_is sc place at seen None None old new grown same = refl
+changed_is sc place at seen (Some b) None old new grown same = left_grown sc place at old new grown
+changed_is sc place at seen before (Some s) old new grown same = ap (λ (found : Seen). seen_lines sc place at found (seen_of (items_of sc at) s)) same
+
+-- a server that a step crashes is down after it
+abbrev IsDownAfter : Step → State → Option Actor → Type 0
+IsDownAfter taken next who = (at : ServerId) → who ≡ Some (actor.Server at) → is_crash taken ≡ true → server_at next.actors at ≡ None
+
+seen_if_up : (sc : Scenario) (w : State) (at : ServerId) (crash : Bool) (after : Option Server) → (crash ≡ true → after ≡ None)
+    → SeenIfUp sc at (seen_before sc w crash (Some (actor.Server at))) (server_at w.actors at) after
+unfolding SeenIfUp
+seen_if_up sc w at crash None down = tt
+seen_if_up sc w at false (Some s) down = refl
+seen_if_up sc w at true (Some s) down = let none : Some s ≡ None = down refl in absurd (cc)
 
 -- ---- the parts of a block
 
@@ -104,14 +122,17 @@ durable_is : (sc : Scenario) (w : State) (taken : Step) (next : State) (who : Op
 durable_is sc w taken next None = refl
 durable_is sc w taken next (Some who) = refl
 
-state_is : (sc : Scenario) (w next : State) (who : Option Actor) → AllGrow w next who → state_from sc (noted_of sc w who) who (gained_by w next who) next ≡ state_lines sc w next who
+state_is : (sc : Scenario) (w : State) (taken : Step) (next : State) (who : Option Actor) → AllGrow w next who → IsDownAfter taken next who
+    → state_from sc (noted_of sc w taken who) who (gained_by w next who) next ≡ state_lines sc w next who
 unfolding AllGrow
-state_is sc w next None h = refl
-state_is sc w next (Some (actor.Server at)) h =
-    changed_is sc (length w.steps) at (server_at w.actors at) (server_at next.actors at) (records_of w.actors (actor.Server at)) (records_of next.actors (actor.Server at)) h
-state_is sc w next (Some (actor.Coordinator txn)) h = refl
-state_is sc w next (Some actor.Master) h = refl
-state_is sc w next (Some actor.Authority) h = refl
+state_is sc w taken next None h down = refl
+state_is sc w taken next (Some (actor.Server at)) h down =
+    changed_is sc (length w.steps) at (seen_before sc w (is_crash taken) (Some (actor.Server at))) (server_at w.actors at) (server_at next.actors at)
+    (records_of w.actors (actor.Server at)) (records_of next.actors (actor.Server at)) h
+    (seen_if_up sc w at (is_crash taken) (server_at next.actors at) (down at refl))
+state_is sc w taken next (Some (actor.Coordinator txn)) h down = refl
+state_is sc w taken next (Some actor.Master) h down = refl
+state_is sc w taken next (Some actor.Authority) h down = refl
 
 server_now_is : (sc : Scenario) (place : ℕ) (at : ServerId) (before after : Option Server) → server_from sc place at (is_some before) after ≡ server_now sc place at before after
 server_now_is sc place at None None = refl
@@ -119,12 +140,12 @@ server_now_is sc place at (Some b) None = refl
 server_now_is sc place at None (Some s) = refl
 server_now_is sc place at (Some b) (Some s) = refl
 
-now_is : (sc : Scenario) (w next : State) (who : Option Actor) → now_from sc (noted_of sc w who) who next ≡ now_lines sc w next who
-now_is sc w next None = refl
-now_is sc w next (Some (actor.Server at)) = server_now_is sc (length w.steps) at (server_at w.actors at) (server_at next.actors at)
-now_is sc w next (Some (actor.Coordinator txn)) = refl
-now_is sc w next (Some actor.Master) = refl
-now_is sc w next (Some actor.Authority) = refl
+now_is : (sc : Scenario) (w : State) (taken : Step) (next : State) (who : Option Actor) → now_from sc (noted_of sc w taken who) who next ≡ now_lines sc w next who
+now_is sc w taken next None = refl
+now_is sc w taken next (Some (actor.Server at)) = server_now_is sc (length w.steps) at (server_at w.actors at) (server_at next.actors at)
+now_is sc w taken next (Some (actor.Coordinator txn)) = refl
+now_is sc w taken next (Some actor.Master) = refl
+now_is sc w taken next (Some actor.Authority) = refl
 
 -- five lists behind one
 behind_one : {A : Type 0} (one two three four five six : List A) → one ++ (two ++ three ++ four ++ five ++ six) ≡ one ++ two ++ three ++ four ++ five ++ six
@@ -134,17 +155,17 @@ behind_one {A} one two three four five six =
     ∙ ap (λ (l : List A). l ++ five) (sym (append_assoc one (two ++ three) four)
     ∙ ap (λ (l : List A). l ++ four) (sym (append_assoc one two three))))
 
-between_is : (sc : Scenario) (w : State) (taken : Step) (next : State) (who : Option Actor) → acting w taken ≡ who → AllGrow w next who
-    → fate_lines sc w taken (mail_at w taken) ++ lines_from sc (noted_of sc w who) (gained_by w next who) (cut_off sc w taken) next ≡ lines_between sc w taken next
-between_is sc w taken next who e h =
+between_is : (sc : Scenario) (w : State) (taken : Step) (next : State) (who : Option Actor) → acting w taken ≡ who → AllGrow w next who → IsDownAfter taken next who
+    → fate_lines sc w taken (mail_at w taken) ++ lines_from sc (noted_of sc w taken who) (gained_by w next who) (cut_off sc w taken) next ≡ lines_between sc w taken next
+between_is sc w taken next who e h down =
     let fate = fate_lines sc w taken (mail_at w taken) in
     let told = all_told sc next.facts (drop (length w.facts) next.facts) in
     let sent = map (mail_line sc (length w.steps) kind.Sent) (drop (length w.mails) next.mails) in
     let all : List Line → List Line → List Line → List Line = λ durable changed now. fate ++ durable ++ told ++ changed ++ sent ++ now in
-    behind_one fate (durable_from sc (length w.steps) who (gained_by w next who) (cut_off sc w taken)) told (state_from sc (noted_of sc w who) who (gained_by w next who) next) sent (now_from sc (noted_of sc w who) who next)
-    ∙ ap (λ (l : List Line). all l (state_from sc (noted_of sc w who) who (gained_by w next who) next) (now_from sc (noted_of sc w who) who next)) (durable_is sc w taken next who)
-    ∙ ap (λ (l : List Line). all (durable_lines sc w taken next who) l (now_from sc (noted_of sc w who) who next)) (state_is sc w next who h)
-    ∙ ap (λ (l : List Line). all (durable_lines sc w taken next who) (state_lines sc w next who) l) (now_is sc w next who)
+    behind_one fate (durable_from sc (length w.steps) who (gained_by w next who) (cut_off sc w taken)) told (state_from sc (noted_of sc w taken who) who (gained_by w next who) next) sent (now_from sc (noted_of sc w taken who) who next)
+    ∙ ap (λ (l : List Line). all l (state_from sc (noted_of sc w taken who) who (gained_by w next who) next) (now_from sc (noted_of sc w taken who) who next)) (durable_is sc w taken next who)
+    ∙ ap (λ (l : List Line). all (durable_lines sc w taken next who) l (now_from sc (noted_of sc w taken who) who next)) (state_is sc w taken next who h down)
+    ∙ ap (λ (l : List Line). all (durable_lines sc w taken next who) (state_lines sc w next who) l) (now_is sc w taken next who)
     ∙ ap (λ (a : Option Actor). all (durable_lines sc w taken next a) (state_lines sc w next a) (now_lines sc w next a)) (sym e)
 
 -- ---- the whole block
@@ -153,7 +174,7 @@ allowed_is : (sc : Scenario) (m : Machine) (taken : Step) → refusal m.state ta
 allowed_is sc m taken ok = ap (λ (why : Option StepError). if is_some why then m else machine_after sc m taken) ok
 
 -- what is noted before a step that is not refused
-module _ (sc : Scenario) (m : Machine) (taken : Step) (noted : Noted) (is : noted ≡ noted_of sc m.state (acting m.state taken)) where
+module _ (sc : Scenario) (m : Machine) (taken : Step) (noted : Noted) (is : noted ≡ noted_of sc m.state taken (acting m.state taken)) where
   next : State
   next = (machine_after sc m taken).state
 
@@ -177,5 +198,5 @@ module _ (sc : Scenario) (m : Machine) (taken : Step) (noted : Noted) (is : note
       let first = line_of (length m.state.steps) (step_kind listed) (step_text sc taken) in
       sym (lines_append (begun sc listed m.state taken) (lines_from sc noted (gained_by m.state after who) (cut_off sc m.state taken) after))
       ∙ ap (λ (n : Noted). lines_text (begun sc listed m.state taken ++ lines_from sc n (gained_by m.state after who) (cut_off sc m.state taken) after)) is
-      ∙ ap (λ (l : List Line). lines_text (first ∷ l)) (between_is sc m.state taken after who refl (all_grow sc m taken who refl))
+      ∙ ap (λ (l : List Line). lines_text (first ∷ l)) (between_is sc m.state taken after who refl (all_grow sc m taken who refl) (down_after sc m taken))
       ∙ ap (λ (k : Machine). lines_text (first ∷ lines_between sc m.state taken k.state)) (sym (allowed_is sc m taken ok))

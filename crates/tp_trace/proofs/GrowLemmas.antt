@@ -27,7 +27,7 @@ pub record HasGrown {A : Type 0} (old new : List A) : Type 0 where
 pub grown_same : {A : Type 0} (xs : List A) → HasGrown xs xs
 grown_same xs = record { more = []; is = sym (append-nil xs) }
 
-some_inj : {A : Type 0} (x y : A) → Some x ≡ Some y → x ≡ y
+pub some_inj : {A : Type 0} (x y : A) → Some x ≡ Some y → x ≡ y
 some_inj {A} x y e = ap (λ (o : Option A). unwrap_or o x) e
 
 -- ---- one actor

@@ -38,7 +38,7 @@ pub struct Noted {
     pub actor: Option<Actor>,
     /// Where its log ends, in bytes.
     pub log_end: u64,
-    /// What is seen of it, if it is a server, and whether that is up.
+    /// What is seen of it, if it is a server that the step does not crash, and whether that is up.
     pub seen: Seen,
     pub was_up: bool,
     /// What it awaits, if it is a coordinator.
@@ -143,12 +143,32 @@ fn end_of(alloc: Global, world: &World, actor: Option<Actor>) -> Result<u64, NoM
     }
 }
 
-fn seen_before(alloc: Global, world: &World, actor: Option<Actor>) -> Result<Seen, NoMemory>
+fn is_crash(taken: &Step) -> bool
+    ensures { result ≡ mirror.is_crash taken.now }
+{
+    match *taken {
+        Step::Crash { .. } => true,
+        _ => false,
+    }
+}
+
+/// What is seen of the actor, to be compared with what is seen after the step. One that crashes is down then, and nothing of it
+/// is compared.
+fn seen_before(
+    alloc: Global,
+    world: &World,
+    taken: &Step,
+    actor: Option<Actor>,
+) -> Result<Seen, NoMemory>
     ensures { IfOk result (λ seen.
-        seen ≡ mirror.seen_before world.now.scenario world.now.machine.state actor) }
+        seen
+        ≡ mirror.seen_before world.now.scenario world.now.machine.state (mirror.is_crash taken.now)
+        actor) }
 {
     match actor {
-        Some(Actor::Server(at)) => see(alloc, items_of(world.scenario(), at), world.server(at)),
+        Some(Actor::Server(at)) if !is_crash(taken) => {
+            see(alloc, items_of(world.scenario(), at), world.server(at))
+        }
         _ => Ok(nothing_seen(alloc)),
     }
 }
@@ -172,12 +192,12 @@ fn awaited_before(alloc: Global, world: &World, actor: Option<Actor>) -> Result<
     }
 }
 
-fn note(alloc: Global, world: &World, actor: Option<Actor>) -> Result<Noted, NoMemory>
+fn note(alloc: Global, world: &World, taken: &Step, actor: Option<Actor>) -> Result<Noted, NoMemory>
     ensures { IfOk result (λ noted.
-        noted ≡ mirror.noted_of world.now.scenario world.now.machine.state actor) }
+        noted ≡ mirror.noted_of world.now.scenario world.now.machine.state taken.now actor) }
 {
     let log_end = end_of(alloc, world, actor)?;
-    let seen = seen_before(alloc, world, actor);
+    let seen = seen_before(alloc, world, taken, actor);
     let (seen, awaited) = both(seen, awaited_before(alloc, world, actor))?;
     Ok(Noted {
         place: world.steps().len() as u64,
@@ -205,12 +225,12 @@ fn put_begun(
         ≡ out.old.items
         ++ lines_text (mirror.begun world.now.scenario listed world.now.machine.state taken.now)) }
     ensures noted { IfOk result (λ noted.
-        noted ≡ mirror.noted_of world.now.scenario world.now.machine.state
+        noted ≡ mirror.noted_of world.now.scenario world.now.machine.state taken.now
         (blocks.acting world.now.machine.state taken.now)) }
 {
     put_step_line(out, world, listed, taken)?;
     put_fate(out, world, taken)?;
-    note(alloc, world, acting(world, taken))
+    note(alloc, world, taken, acting(world, taken))
 }
 
 // ---- after it

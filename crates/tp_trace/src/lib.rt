@@ -9,8 +9,8 @@
 //! - The report of a run is in its trace: in the lines of its steps, and the last lines (`traces_tell_reports`)
 //!
 //! Nothing of it is kept between two steps: before a step the ends of lists are taken, and what is seen of the one
-//! actor that acts; behind it what differs is put. What stands below a fact and is not in a report is of `tp_why`, and
-//! the last lines of a run are those of its report (`tp_report::put_ending`).
+//! actor that acts, unless the step crashes it; behind it what differs is put. What stands below a fact and is not in a
+//! report is of `tp_why`, and the last lines of a run are those of its report (`tp_report::put_ending`).
 #![tactic(auto)]
 
 mod blocks;

@@ -83,7 +83,7 @@ fn locks_of(
 ) -> Result<List<List<LockEntry>>, NoMemory>
     ensures { IfOk result (λ made. made ≡ map (seen.entries_in table.now) items.now) }
 {
-    let mut made = List::new(alloc);
+    let mut made = List::from_vec(Vec::with_capacity(alloc, items.len())?);
     for item in items {
         made.push(table.entries(alloc, *item)?)?;
     }
@@ -94,7 +94,7 @@ fn locks_of(
 fn values_of(alloc: Global, items: &[ItemId], values: &[i128]) -> Result<List<i128>, NoMemory>
     ensures { IfOk result (λ made. made ≡ map (seen.value_in values.now) items.now) }
 {
-    let mut made = List::new(alloc);
+    let mut made = List::from_vec(Vec::with_capacity(alloc, items.len())?);
     for item in items {
         made.push(value_in(values, *item))?;
     }

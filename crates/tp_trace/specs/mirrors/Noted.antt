@@ -1,5 +1,5 @@
 -- What is noted before a step, and the lines that the code finds by it afterwards.
-use Rattle.std.specs.Prelude.{◌≡◌, ℕ, ◌-◌, List, [], ◌∷◌, ◌++◌, length, map, take, drop, Bool, true, false, Option, Some, None, is_some, codes, decimal}
+use Rattle.std.specs.Prelude.{◌≡◌, ℕ, ◌-◌, List, [], ◌∷◌, ◌++◌, length, map, take, drop, Bool, true, false, Option, Some, None, is_some, codes, decimal, if◌then◌else◌}
 use Rattle.tp_log.specs.Images.{blocks}
 use Rattle.tp_machine.specs.Logs.{records_of}
 use Rattle.tp_machine.specs.Machine.{State}
@@ -7,6 +7,7 @@ use Rattle.tp_machine.specs.Views.{StandsAt, coordinator_at, server_at}
 use Rattle.tp_machine.specs.declared.actors.Actors.{Actors}
 use Rattle.tp_model.specs.Words.{Actor, Record, Scenario, ServerId, Step}
 use Rattle.tp_model.specs.Words.actor
+use Rattle.tp_model.specs.Words.step
 use Rattle.tp_report.specs.ReportText.{server_name}
 use Rattle.tp_server.specs.State.{Server}
 use Rattle.tp_trace.specs.Blocks.{coordinator_now, fate_lines, log_lines, mail_at, step_kind}
@@ -26,9 +27,15 @@ abbrev pub end_of : State → Option Actor → ℕ
 end_of w None = 0
 end_of w (Some who) = length (blocks (records_of w.actors who))
 
-abbrev pub seen_before : Scenario → State → Option Actor → Seen
-seen_before sc w (Some (actor.Server at)) = seen_up (items_of sc at) (server_at w.actors at)
-seen_before sc w _ = nothing_seen
+abbrev pub is_crash : Step → Bool
+is_crash (step.Crash who cut) = true
+is_crash _ = false
+
+-- what is seen of the actor, if that is a server; nothing where it crashes, since it is down then
+abbrev pub seen_before : Scenario → State → Bool → Option Actor → Seen
+seen_before sc w crash (Some (actor.Server at)) =
+    if crash then nothing_seen else seen_up (items_of sc at) (server_at w.actors at)
+seen_before sc w crash _ = nothing_seen
 
 -- the actor is a server that is up
 abbrev pub was_up : State → Option Actor → Bool
@@ -39,14 +46,14 @@ abbrev pub awaited_before : Scenario → State → Option Actor → List ℕ
 awaited_before sc w (Some (actor.Coordinator txn)) = awaits_text sc (coordinator_at w.actors txn)
 awaited_before sc w _ = []
 
-abbrev pub noted_of : Scenario → State → Option Actor → Noted
-noted_of sc w who = record {
+abbrev pub noted_of : Scenario → State → Step → Option Actor → Noted
+noted_of sc w taken who = record {
   place = length w.steps;
   facts = length w.facts;
   mails = length w.mails;
   actor = who;
   log_end = end_of w who;
-  seen = seen_before sc w who;
+  seen = seen_before sc w (is_crash taken) who;
   was_up = was_up w who;
   awaited = awaited_before sc w who;
 }
