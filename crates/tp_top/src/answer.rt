@@ -16,7 +16,7 @@ ghost use Rattle.tp_top.specs.mirrors.Answers.{IsInput, IsRefusal, IsReported, I
 ghost use Rattle.tp_words.specs.declared.commands.Command.TheVariants as Command;
 
 use crate::bulk::bulk;
-use crate::ended::{RunEnd, ending, run};
+use crate::ended::{RunEnd, ending, leave, run};
 use crate::refusals::{refusal_line, step_line};
 use crate::traced::traced;
 use std::alloc::Global;
@@ -70,7 +70,7 @@ fn answer_by_run<I: Source>(alloc: Global, input: &mut I) -> Answer
         Err(answer) => answer,
         Ok(scenario) => {
             let answer = reported(alloc, &scenario);
-            drop(scenario);
+            leave(scenario);
             answer
         }
     }
@@ -86,7 +86,7 @@ fn answer_by_trace<I: Source>(alloc: Global, input: &mut I) -> Answer
         Err(answer) => answer,
         Ok(scenario) => {
             let answer = traced(alloc, &scenario);
-            drop(scenario);
+            leave(scenario);
             answer
         }
     }
@@ -147,7 +147,7 @@ fn report(alloc: Global, scenario: &Scenario) -> Result<Answer, NoMemory>
 {
     let mut world = history::start(alloc, scenario)?;
     let answer = report_in(alloc, &mut world, scenario);
-    drop(world);
+    leave(world);
     answer
 }
 

@@ -9,7 +9,7 @@ ghost use Rattle.tp_runs.specs.Laws.{IsTrustedState};
 ghost use Rattle.tp_top.specs.mirrors.Answers.{IsCounted, IsWhole};
 
 use crate::answer::{Answer, proved_facts};
-use crate::ended::{RunEnd, ending, run};
+use crate::ended::{RunEnd, ending, leave, run};
 use std::alloc::Global;
 use tp_bulk::{run_line, scenario_of};
 use tp_machine::World;
@@ -35,7 +35,7 @@ fn counted(alloc: Global, count: u32) -> Result<Answer, NoMemory>
 {
     let scenario = scenario_of(alloc, count)?;
     let answer = count_run(alloc, count, &scenario);
-    drop(scenario);
+    leave(scenario);
     answer
 }
 
@@ -46,7 +46,7 @@ fn count_run(alloc: Global, count: u32, scenario: &Scenario) -> Result<Answer, N
 {
     let mut world = history::start(alloc, scenario)?;
     let answer = count_in(alloc, count, &mut world, scenario);
-    drop(world);
+    leave(world);
     answer
 }
 

@@ -1,5 +1,5 @@
 //! The run of a scenario's world: its listed steps, and then the automatic ones.
-ghost use Rattle.std.specs.Prelude.{◌≡◌, true, false, IfOk, OnOk};
+ghost use Rattle.std.specs.Prelude.{◌≡◌, true, IfOk, OnOk};
 ghost use Rattle.tp_model.specs.Valid as valid;
 ghost use Rattle.tp_machine.specs.Machine.{ending_of};
 ghost use Rattle.tp_machine.specs.WorldView.{start};
@@ -8,6 +8,7 @@ ghost use Rattle.tp_top.specs.mirrors.Answers.{HasRun, IsListed, IsWhole};
 
 use crate::listed::{StepRefusal, follow};
 use std::alloc::Global;
+use std::mem::forget;
 use tp_auto::drain;
 use tp_machine::World;
 use tp_runs::history;
@@ -52,4 +53,10 @@ pub(crate) fn ending(world: &World, alloc: Global) -> Result<Ending, NoMemory>
 {
     let _so_far = history::facts(world);
     history::ending(world, alloc)
+}
+
+/// Leaves what a command took to the end of the process, which gives all memory back at once: the program ends behind its
+/// answer, and letting go of a world piece by piece takes a twentieth of its run.
+pub(crate) fn leave<T: Drop>(taken: T) {
+    forget(taken);
 }

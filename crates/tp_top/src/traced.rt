@@ -11,7 +11,7 @@ ghost use Rattle.tp_trace.specs.Blocks.{ending_text, trace_text};
 ghost use Rattle.tp_types.specs.Each.{Each};
 
 use crate::answer::Answer;
-use crate::ended::ending;
+use crate::ended::{ending, leave};
 use crate::listed::StepRefusal;
 use crate::refusals::step_line;
 use std::alloc::Global;
@@ -44,7 +44,7 @@ fn trace(alloc: Global, scenario: &Scenario) -> Result<Answer, NoMemory>
 {
     let mut world = history::start(alloc, scenario)?;
     let answer = trace_in(alloc, &mut world, scenario);
-    drop(world);
+    leave(world);
     answer
 }
 
