@@ -2,4 +2,5 @@ pub mod AppliedLemmas
 pub mod LawLemmas
 pub mod OutsideLemmas
 pub mod StoreLemmas
+pub mod TableLemmas
 pub mod WriteLemmas

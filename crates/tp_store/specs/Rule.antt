@@ -19,14 +19,22 @@ abbrev pub known_at_first : Scenario → ServerId → List Version
 known_at_first sc server =
     option_map_or (λ (declared : ServerDecl). declared.knows) (slice_get sc.servers server.0) []
 
--- these values and versions, and no transaction has a write
-abbrev pub restored : Scenario → List ℤ → List Version → Contents
-restored sc values known = record {
-  bounds = map bounds_of sc.items;
+-- these ranges, values and versions, and none of so many transactions has a write
+abbrev pub over : List Bounds → ℕ → List ℤ → List Version → Contents
+over ranges txns values known = record {
+  bounds = ranges;
   values = values;
   known = known;
-  tentative = replicate (length sc.txns) [];
+  tentative = replicate txns [];
 }
+
+-- the ranges of the scenario's items
+abbrev pub ranges_of : Scenario → List Bounds
+ranges_of sc = map bounds_of sc.items
+
+-- these values and versions, and no transaction has a write
+abbrev pub restored : Scenario → List ℤ → List Version → Contents
+restored sc values known = over (ranges_of sc) (length sc.txns) values known
 
 -- all items have their opening values
 abbrev pub opening : Scenario → ServerId → Contents
@@ -38,9 +46,12 @@ opening sc server = restored sc (opening_store sc) (known_at_first sc server)
 abbrev pub value_in : Contents → ItemId → ℤ
 value_in store item = number_at store.values item.0
 
--- the writes of a transaction; none where there is no such transaction
+-- of a table the writes of a transaction; none where there is no such transaction
+abbrev pub writes_in : List (List TentativeWrite) → TxnId → List TentativeWrite
+writes_in table txn = unwrap_or (slice_get table txn.0) []
+
 abbrev pub writes_of : Contents → TxnId → List TentativeWrite
-writes_of store txn = unwrap_or (slice_get store.tentative txn.0) []
+writes_of store txn = writes_in store.tentative txn
 
 abbrev pub with_writes : Contents → TxnId → List TentativeWrite → Contents
 with_writes store txn writes = record store { tentative = slice_set store.tentative txn.0 writes }

@@ -4,7 +4,8 @@
 //! What is promised, with the contract that carries it:
 //!
 //! - A store begins as the scenario says (`Store::opened`), and what it begins with is told (`opening_values`,
-//!   `known_at_first`); or it begins with what a log leaves (`Store::restored`)
+//!   `known_at_first`); or it begins with what a log leaves (`Store::restored`; over a share of the ranges of items, which
+//!   stores do not copy, `Store::over`, `Ranges`)
 //! - A transaction reads what it has written itself, or else the item's value (`Store::read`, `Store::value`)
 //! - Of two writes of one item the last by query is kept; where memory is refused the store stays
 //!   (`Store::write`: `ok`, `err`)
@@ -29,10 +30,13 @@
 
 mod laws;
 mod opening;
+mod ranges;
 mod store;
+mod tentative;
 mod writes;
 
 pub use laws::{first_outside_is_least, own_writes_are_read, writes_are_applied_in_order};
 pub use opening::{known_at_first, opening_values};
+pub use ranges::Ranges;
 pub use store::Store;
 pub use writes::{Bounds, TentativeWrite};

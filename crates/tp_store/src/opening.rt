@@ -3,31 +3,9 @@ ghost use Rattle.std.specs.Prelude.{◌≡◌, [], map, replicate, IfOk};
 ghost use Rattle.tp_model.specs.SerialRun.{opening_value};
 ghost use Rattle.tp_store.specs.Rule as rule;
 
-use crate::writes::{Bounds, TentativeWrite};
+use crate::writes::TentativeWrite;
 use std::alloc::{AllocError, Global};
 use tp_types::{Item, List, NoMemory, Scenario, ServerId, TryClone, Version};
-
-fn bounds_of_item(item: &Item) -> Bounds
-    ensures { result ≡ rule.bounds_of item.now }
-{
-    Bounds {
-        min: item.min,
-        max: item.max,
-    }
-}
-
-fn bounds_in(alloc: Global, items: &[Item]) -> Result<Vec<Bounds>, AllocError>
-    ensures { IfOk result (λ made. made.items ≡ map rule.bounds_of items.now) }
-{
-    items.iter().map(bounds_of_item).collect(alloc)
-}
-
-/// The range of each item.
-pub fn bounds_of(alloc: Global, items: &[Item]) -> Result<List<Bounds>, NoMemory>
-    ensures { IfOk result (λ made. made ≡ map rule.bounds_of items.now) }
-{
-    Ok(List::from_vec(bounds_in(alloc, items)?))
-}
 
 fn values_in(alloc: Global, items: &[Item]) -> Result<Vec<i128>, AllocError>
     ensures { IfOk result (λ made. made.items ≡ map opening_value items.now) }
@@ -57,15 +35,4 @@ pub fn known_at_first(
         None => Ok(List::new(alloc)),
         Some(declared) => declared.knows.try_clone(alloc),
     }
-}
-
-/// Of each transaction no write.
-pub fn no_writes(alloc: Global, count: usize) -> Result<List<List<TentativeWrite>>, NoMemory>
-    ensures { IfOk result (λ made. made ≡ replicate count []) }
-{
-    let mut made = List::from_vec(Vec::with_capacity(alloc, count)?);
-    for _txn in 0..count {
-        made.push(List::new(alloc))?;
-    }
-    Ok(made)
 }

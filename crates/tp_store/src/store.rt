@@ -2,8 +2,10 @@
 ghost use Rattle.std.specs.Prelude.{◌≡◌, IfOk, OnOk, OnErr};
 ghost use Rattle.tp_store.specs.Rule as rule;
 
-use crate::opening::{bounds_of, known_at_first, no_writes, opening_values};
-use crate::writes::{Bounds, TentativeWrite, apply, first_outside, keep, write_on};
+use crate::opening::{known_at_first, opening_values};
+use crate::ranges::Ranges;
+use crate::tentative::Tentative;
+use crate::writes::{TentativeWrite, apply, first_outside, write_on};
 use std::alloc::Global;
 use std::marker::Model;
 use tp_types::{AdminId, ItemId, List, NoMemory, Scenario, ServerId, TxnId, Version, both};
@@ -11,10 +13,10 @@ use tp_types::{AdminId, ItemId, List, NoMemory, Scenario, ServerId, TxnId, Versi
 /// Values, tentative writes and known versions. Contracts see them as lists.
 #[derive(Drop)]
 pub struct Store {
-    bounds: List<Bounds>,
+    bounds: Ranges,
     values: List<i128>,
     known: List<Version>,
-    tentative: List<List<TentativeWrite>>,
+    tentative: Tentative,
 }
 
 impl Model for Store {
@@ -50,14 +52,27 @@ impl Store {
     ) -> Result<Store, NoMemory>
         ensures { IfOk result (λ made. made ≡ rule.restored scenario.now values known) }
     {
-        let bounds = bounds_of(alloc, scenario.items.as_slice());
-        let (bounds, tentative) = both(bounds, no_writes(alloc, scenario.txns.len()))?;
-        Ok(Store {
-            bounds,
+        let ranges = Ranges::of(alloc, scenario.items.as_slice())?;
+        Ok(Store::over(alloc, ranges, scenario.txns.len(), values, known))
+    }
+
+    /// A store over a share of the ranges of its items, with these values and versions, and with no write of so many
+    /// transactions.
+    pub fn over(
+        alloc: Global,
+        ranges: Ranges,
+        txns: usize,
+        values: List<i128>,
+        known: List<Version>,
+    ) -> Store
+        ensures { result ≡ rule.over ranges txns values known }
+    {
+        Store {
+            bounds: ranges,
             values,
             known,
-            tentative,
-        })
+            tentative: Tentative::none(alloc, txns),
+        }
     }
 
     /// The value of each item of the scenario; only the server's own are read or written.
@@ -89,10 +104,7 @@ impl Store {
     fn written(&self, txn: TxnId, item: ItemId) -> Option<TentativeWrite>
         ensures { result ≡ rule.kept_write self.now txn item }
     {
-        match self.tentative.get(txn.0 as usize) {
-            None => None,
-            Some(writes) => write_on(writes.as_slice(), item),
-        }
+        write_on(self.tentative.of(txn), item)
     }
 
     /// What a transaction reads: its own tentative value of the item, or else the item's.
@@ -105,23 +117,11 @@ impl Store {
         }
     }
 
-    fn keep(&mut self, txn: TxnId, new: TentativeWrite) -> Result<(), NoMemory>
-        ensures ok { OnOk result (self.new ≡ rule.after_write self.old txn new) }
-        ensures err { OnErr result (self.new ≡ self.old) }
-    {
-        match self.tentative.get_mut(txn.0 as usize) {
-            None => Ok(()),
-            Some(writes) => keep(writes, new),
-        }
-    }
-
     /// Keeps a write of a transaction. Of two of its writes of one item the last by query is kept. Where memory is refused
     /// the store stays.
-    /// The allocator is not used, since the lists that grow hold it already; every call that takes memory is
-    /// handed one.
     pub fn write(
         &mut self,
-        _alloc: Global,
+        alloc: Global,
         txn: TxnId,
         query: u32,
         item: ItemId,
@@ -134,7 +134,8 @@ impl Store {
         })) }
         ensures err { OnErr result (self.new ≡ self.old) }
     {
-        self.keep(txn, TentativeWrite { query, item, value })
+        let new = TentativeWrite { query, item, value };
+        self.tentative.keep(alloc, txn, new)
     }
 
     /// Among the items whose tentative value is outside their range, the one whose last writing query has the least number:
@@ -143,8 +144,7 @@ impl Store {
     pub fn first_outside(&self, txn: TxnId) -> Option<(u32, i128)>
         ensures { result ≡ rule.first_outside_in self.now txn }
     {
-        let writes = self.tentative.get(txn.0 as usize)?;
-        let first = first_outside(self.bounds.as_slice(), writes.as_slice())?;
+        let first = first_outside(self.bounds.as_slice(), self.tentative.of(txn))?;
         Some((first.query, first.value))
     }
 
@@ -153,20 +153,15 @@ impl Store {
     pub fn apply(&mut self, txn: TxnId)
         ensures { self.new ≡ rule.after_apply self.old txn }
     {
-        if let Some(writes) = self.tentative.get_mut(txn.0 as usize) {
-            apply(&mut self.values, writes.as_slice());
-            writes.truncate(0);
-        }
+        apply(&mut self.values, self.tentative.of(txn));
+        self.tentative.clear(txn);
     }
 
     /// Drops what the transaction has written. The items keep their values.
     pub fn forget(&mut self, txn: TxnId)
         ensures { self.new ≡ rule.after_forget self.old txn }
     {
-        match self.tentative.get_mut(txn.0 as usize) {
-            None => {}
-            Some(writes) => writes.truncate(0),
-        }
+        self.tentative.clear(txn);
     }
 
     /// The newest version known of an administrator; the first where there is no such administrator.
