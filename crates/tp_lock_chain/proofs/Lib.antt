@@ -1,5 +1,6 @@
 mod AskLemmas
 mod ChainLemmas
+mod EndLemmas
 mod EnterLemmas
 mod FamilyLemmas
 mod LeaveLemmas

@@ -3,7 +3,7 @@ use Rattle.std.proofs.Common.{◌≡◌, ◌≢◌, ◌==◌, ◌<◌, ◌≤◌
 use Rattle.std.specs.Prelude.{nat_lt}
 use Rattle.std.proofs.lemmas.Bool.{and_left, both_ways, cases_Bool, cases_eq, cases_lt, le-ltb, lt-ltb, ne_eqb, and_right}
 use Rattle.std.proofs.lemmas.List.{append-nil, get_or_append_left, get_or_at, get_or_past, length-append, take-append-le}
-use Rattle.std.proofs.lemmas.List.FromFn.{get_or-map-range_with_len, length-map-range_with_len, map-range_with_len_more}
+use Rattle.std.proofs.lemmas.List.FromFn.{get_or-map-range_with_len, length-map-range_with_len}
 use Rattle.std.specs.List.{range_with_len}
 use Rattle.tp_types.specs.declared.list.NoMemory.{NoMemory}
 use Rattle.tp_lock.specs.Order.{AreOrderly}
@@ -19,10 +19,11 @@ use Rattle.tp_lock_chain.specs.declared.links.Pair.{Pair}
 use Rattle.tp_lock_chain.specs.declared.links.Pool.{Pool}
 use Rattle.tp_lock_chain.specs.declared.links.Spot.{Spot}
 use Rattle.tp_lock_chain.specs.declared.links.Spot.TheVariants.{End, On}
+use Rattle.tp_lock_chain.specs.mirrors.Ends.{ends, lone}
 use Rattle.tp_lock_chain.specs.mirrors.Links.{blank, links, node_at, nowhere, pair_of}
 use Rattle.tp_lock_chain.specs.mirrors.Pool.{AreRising, IsChained, IsKept, entries_of, in_item, in_owner, is_there, list_of, ring_of, shown}
 use Rattle.tp_lock_chain.specs.mirrors.Rings.{AreApart, AreLinked, AreRings, is_in, walk}
-use Rattle.tp_lock_chain.specs.mirrors.Room.{Keeps, ends, lone, opened, with_blank, with_node, with_owner, with_place}
+use Rattle.tp_lock_chain.specs.mirrors.Room.{Keeps, opened, with_blank, with_node, with_owner, with_place}
 use Rattle.tp_lock_chain.proofs.ChainLemmas.{in_owner_free, in_owner_parts, rising_same}
 use Rattle.tp_lock_chain.proofs.FamilyLemmas.{IsMore, found_is, found_rings, rings_with}
 use Rattle.tp_lock_chain.proofs.LikeLemmas.{IsLike, like_chained}
@@ -427,7 +428,3 @@ owner_pushed base pool owners pair count keeps pushed alone many =
     let whole : owners ≡ pool.owners ++ lone (length pool.owners) ∷ [] = pushed ∙ ap (λ (p : Pair). pool.owners ++ p ∷ []) alone ∙ ap (λ n. pool.owners ++ lone n ∷ []) many in
     let P : List Pair → Type 0 = λ os. Keeps base (record pool { owners = os }) in
     subst P (sym whole) (keeps_twice base pool (with_owner pool) keeps (with_owner_keeps pool))
-
-pub end_pushed : (made more : List Pair) (pair : Pair) (count : ℕ) → made ≡ ends count → more ≡ made ++ pair ∷ [] → pair ≡ lone count → more ≡ ends (count + 1)
-end_pushed made more pair count so_far pushed alone =
-    pushed ∙ ap₂ (λ (m : List Pair) (p : Pair). m ++ p ∷ []) so_far alone ∙ sym (map-range_with_len_more lone 0 count count (omega arith))

@@ -1,4 +1,5 @@
 pub mod Ask
+pub mod Ends
 pub mod Leave
 pub mod Links
 pub mod Pool

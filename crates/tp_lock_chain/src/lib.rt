@@ -30,12 +30,16 @@
 //! them, and 63 readers that wait for it, a turn takes 1,502,873 and 868,743. What they give is the bound, which is
 //! proved of every table; of the plain one none is.
 //!
+//! An opened table has memory for the ends of all its items' rings, and makes these ends only as they are written; that
+//! is by the bodies, and no contract says it.
+//!
 //! Not claimed: a bound on the steps of a request, which reads the list of its item once, and the ring of its owner
 //! where the owner has a lock on a later item; nor how long a step takes.
 #![tactic(auto)]
 
 mod ask;
 mod chain;
+mod ends;
 mod leave;
 mod links;
 mod room;

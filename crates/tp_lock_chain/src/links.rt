@@ -2,6 +2,7 @@
 ghost use Rattle.std.specs.Prelude.{◌≡◌, slice_index_or, slice_set};
 ghost use Rattle.tp_lock_chain.specs.mirrors.Links as mirror;
 
+use crate::ends::Ends;
 use tp_lock::{Grant, LockEntry};
 use tp_types::{Action, List, TxnId};
 
@@ -39,7 +40,7 @@ pub struct Node {
 #[derive(Drop)]
 pub struct Pool {
     pub nodes: List<Node>,
-    pub items: List<Pair>,
+    pub items: Ends,
     pub owners: List<Pair>,
     /// The ring of free nodes, the last of those of items.
     pub free: u32,
@@ -51,7 +52,8 @@ pub struct Pool {
     pub next: usize,
 }
 
-fn nowhere() -> Pair
+/// The links of an end that is not there.
+pub fn nowhere() -> Pair
     ensures { result ≡ mirror.nowhere }
 {
     Pair {
@@ -120,7 +122,7 @@ pub fn links(pool: &Pool, kind: Kind, spot: Spot) -> Pair
 {
     match spot {
         Spot::End(ring) => match kind {
-            Kind::Item => end_of(&pool.items, ring),
+            Kind::Item => pool.items.get(ring),
             Kind::Owner => end_of(&pool.owners, ring),
         },
         Spot::On(node) => pair_at(&pool.nodes, kind, node),

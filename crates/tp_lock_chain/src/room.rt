@@ -3,33 +3,11 @@ ghost use Rattle.std.specs.Prelude.{◌≡◌, ◌<◌, ◌+◌, true, length, I
 ghost use Rattle.tp_lock_chain.specs.mirrors.Pool as mirror;
 ghost use Rattle.tp_lock_chain.specs.mirrors.Room as room;
 
-use crate::links::{Kind, Node, Pair, Pool, Spot, blank, link_before, links};
-use std::alloc::{AllocError, Global};
+use crate::ends::{Ends, lone};
+use crate::links::{Kind, Node, Pool, Spot, blank, link_before, links};
+use std::alloc::Global;
 use tp_lock::Grant;
 use tp_types::{ItemId, List, NoMemory, TxnId};
-
-/// The links of an end with no node.
-fn lone(ring: usize) -> Pair
-    ensures { result ≡ room.lone ring }
-{
-    Pair {
-        before: Spot::End(ring),
-        after: Spot::End(ring),
-    }
-}
-
-fn ends_in(alloc: Global, count: usize) -> Result<Vec<Pair>, AllocError>
-    ensures { IfOk result (λ made. made.items ≡ room.ends count) }
-{
-    (0..count).map(lone).collect(alloc)
-}
-
-/// As many ends, each with no node.
-fn ends(alloc: Global, count: usize) -> Result<List<Pair>, NoMemory>
-    ensures { IfOk result (λ made. made ≡ room.ends count) }
-{
-    Ok(List::from_vec(ends_in(alloc, count)?))
-}
 
 /// A pool for so many items, with no node.
 pub fn opened(alloc: Global, items: u32) -> Result<Pool, NoMemory>
@@ -37,7 +15,7 @@ pub fn opened(alloc: Global, items: u32) -> Result<Pool, NoMemory>
 {
     Ok(Pool {
         nodes: List::new(alloc),
-        items: ends(alloc, items as usize + 1)?,
+        items: Ends::opened(alloc, items as usize)?,
         owners: List::new(alloc),
         free: items,
         granted: List::new(alloc),

@@ -1,21 +1,14 @@
 -- What is made when memory is taken.
-use Rattle.std.specs.Prelude.{ℕ, ◌+◌, ◌≡◌, ◌<◌, List, [], ◌∷◌, ◌++◌, length, map, slice_set}
-use Rattle.std.specs.List.{range_with_len}
+use Rattle.std.specs.Prelude.{ℕ, ◌+◌, ◌≡◌, ◌<◌, List, [], ◌∷◌, ◌++◌, length, slice_set}
 use Rattle.tp_lock.specs.Rule.{grant_of}
 use Rattle.tp_lock.specs.Table.{Table}
 use Rattle.tp_lock.specs.declared.entry.LockEntry.{LockEntry}
 use Rattle.tp_lock_chain.specs.declared.links.Kind.TheVariants.{Item}
-use Rattle.tp_lock_chain.specs.declared.links.Pair.{Pair}
 use Rattle.tp_lock_chain.specs.declared.links.Pool.{Pool}
 use Rattle.tp_lock_chain.specs.declared.links.Spot.TheVariants.{End}
+use Rattle.tp_lock_chain.specs.mirrors.Ends.{ends, lone}
 use Rattle.tp_lock_chain.specs.mirrors.Links.{blank, linked_before}
 use Rattle.tp_lock_chain.specs.mirrors.Pool.{IsChained, IsKept, list_of, shown}
-
-abbrev pub lone : ℕ → Pair
-lone ring = record { before = End ring; after = End ring }
-
-abbrev pub ends : ℕ → List Pair
-ends count = map lone (range_with_len 0 count)
 
 abbrev pub opened : ℕ → Pool
 opened items = record {
