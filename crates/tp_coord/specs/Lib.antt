@@ -3,3 +3,4 @@ pub mod Opened
 pub mod Row
 pub mod State
 pub mod Sums
+pub mod mirrors

@@ -5,7 +5,6 @@ ghost use Rattle.tp_coord.specs.Row as row;
 
 use crate::coordinator::{Coordinator, Phase};
 use std::alloc::Global;
-use std::mem;
 use tp_scheme::Point;
 use tp_types::{
     Actor, Body, Letter, NewestReply, NoMemory, Place, ProbeRequest, Reaction, Reading, Scenario,
@@ -87,14 +86,12 @@ impl Coordinator {
             Gives (row.on_round_read scenario.now self.old self.old.phase reading.now)
             self.new reaction) }
     {
-        match mem::replace(&mut self.phase, Phase::Idle) {
-            Phase::Reading { span, round } => {
-                self.judged(alloc, scenario, span, round, None, Some(reading))
+        match &mut self.phase {
+            Phase::Reading { span: _, round } => {
+                let answer = round.judge(alloc, Some(reading))?;
+                self.follows(alloc, scenario, answer, Some(reading))
             }
-            other => {
-                self.enters(other);
-                Ok(ignored(alloc))
-            }
+            _ => Ok(ignored(alloc)),
         }
     }
 

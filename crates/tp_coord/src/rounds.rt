@@ -9,8 +9,8 @@ ghost use Rattle.tp_coord.specs.declared.coordinator.Span.TheVariants as Span;
 ghost use Rattle.tp_round.specs.declared.round.Wanted.{Wanted};
 ghost use Rattle.tp_types.specs.Effect.{Gives};
 ghost use Rattle.tp_round.specs.Judge as judge;
-ghost use Rattle.tp_round.specs.Replies as replies;
 ghost use Rattle.tp_coord.specs.Row as row;
+ghost use Rattle.tp_coord.specs.mirrors.InPlace as place;
 
 use crate::coordinator::{Coordinator, Phase, Span};
 use crate::decisions::denied_by;
@@ -241,103 +241,159 @@ impl Coordinator {
         })
     }
 
-    /// The round goes on to await what it awaits.
-    fn stays(&mut self, alloc: Global, span: Span, round: Round, staple: Option<Staple>) -> Reaction
-        ensures { Gives (row.stays self.old span round staple) self.new result }
-    {
-        self.enters(match staple {
-            Some(staple) => Phase::Checking {
-                span,
-                round,
-                staple,
-            },
-            None => Phase::Reading { span, round },
-        });
-        nothing(alloc)
-    }
-
     /// A server that is awaited has replied: once all have, the master is read where the round reads it, and else the
     /// round is judged.
-    pub(crate) fn replied(
+    pub(crate) fn counted(
         &mut self,
         alloc: Global,
         scenario: &Scenario,
-        span: Span,
-        round: Round,
-        staple: Staple,
-        server: ServerId,
-        verdicts: &List<Verdict>,
     ) -> Result<Reaction, NoMemory>
         ensures { IfOk result (λ reaction.
-            Gives
-            (row.on_reply scenario.now self.old span
-            (judge.after_reply round server verdicts.now) staple)
-            self.new reaction) }
+            Gives (place.on_counted scenario.now self.old self.old.phase) self.new reaction) }
     {
-        let mut round = round;
-        counts(alloc, &mut round, server, verdicts)?;
-        if round.awaits_any() {
-            return Ok(self.stays(alloc, span, round, Some(staple)));
+        match &mut self.phase {
+            Phase::Checking { round, .. } => {
+                if round.awaits_any() {
+                    return Ok(nothing(alloc));
+                }
+                if round.reads {
+                    return self.reads_after(alloc);
+                }
+                let answer = round.judge(alloc, None)?;
+                self.follows(alloc, scenario, answer, None)
+            }
+            _ => Ok(ignored(alloc)),
         }
-        if round.reads {
-            return self.probes(alloc, Phase::Reading { span, round });
-        }
-        self.judged(alloc, scenario, span, round, Some(staple), None)
     }
 
-    /// What follows from the replies of a round, and from the reading of the master where there was one.
-    pub(crate) fn judged(
-        &mut self,
-        alloc: Global,
-        scenario: &Scenario,
-        span: Span,
-        round: Round,
-        staple: Option<Staple>,
-        reading: Option<&Reading>,
-    ) -> Result<Reaction, NoMemory>
+    /// All of a round have replied: the master is asked.
+    fn reads_after(&mut self, alloc: Global) -> Result<Reaction, NoMemory>
         ensures { IfOk result (λ reaction.
-            Gives
-            (row.on_judged scenario.now self.old span round staple
-            (option_copied reading.entry)
-            (judge.judge round (option_copied reading.entry)))
-            self.new reaction) }
+            Gives (place.reads_after self.old self.old.phase) self.new reaction) }
     {
-        let mut round = round;
-        match round.judge(alloc, reading)? {
-            Judged::Waiting => Ok(self.stays(alloc, span, round, staple)),
-            Judged::Spent(mets) => self.aborts(alloc, Cause::Rounds(mets)),
-            Judged::Update(_) => self.asks(alloc, span, round),
-            Judged::False { verdict } => self.aborts(alloc, Cause::Denied(denied_by(&verdict))),
-            Judged::AllTrue => {
-                let rounds = round.rounds();
-                let agreed = instance_of(alloc, &round, reading)?;
-                self.stays(alloc, span, round, staple);
-                self.agreed(alloc, scenario, span, agreed, rounds)
+        match mem::replace(&mut self.phase, Phase::Idle) {
+            Phase::Checking {
+                span,
+                round,
+                staple: _,
+            } => self.probes(alloc, Phase::Reading { span, round }),
+            other => {
+                self.enters(other);
+                Ok(ignored(alloc))
             }
         }
     }
 
-    /// All proofs of a round are true, of one version each: they are an instance, and the transaction goes on.
-    fn agreed(
+    /// What follows from what was judged of the round that is awaited.
+    pub(crate) fn follows(
         &mut self,
         alloc: Global,
         scenario: &Scenario,
-        span: Span,
-        agreed: Instance,
-        rounds: u32,
+        answer: Judged,
+        reading: Option<&Reading>,
     ) -> Result<Reaction, NoMemory>
         ensures { IfOk result (λ reaction.
             Gives
-            (row.goes_on scenario.now self.old
-            (row.closes self.old agreed.reading agreed.proofs) (row.point_of span) rounds)
+            (place.follows scenario.now self.old (option_copied reading.entry) answer)
             self.new reaction) }
     {
+        match answer {
+            Judged::Waiting => Ok(nothing(alloc)),
+            Judged::Spent(mets) => self.aborts(alloc, Cause::Rounds(mets)),
+            Judged::Update(_) => self.asks_anew(alloc),
+            Judged::False { verdict } => self.aborts(alloc, Cause::Denied(denied_by(&verdict))),
+            Judged::AllTrue => self.agrees(alloc, scenario, reading),
+        }
+    }
+
+    /// An update has begun the next round: the authority is asked anew.
+    fn asks_anew(&mut self, alloc: Global) -> Result<Reaction, NoMemory>
+        ensures { IfOk result (λ reaction.
+            Gives (place.asks_anew self.old self.old.phase) self.new reaction) }
+    {
+        match mem::replace(&mut self.phase, Phase::Idle) {
+            Phase::Checking {
+                span,
+                round,
+                staple: _,
+            } => self.asks(alloc, span, round),
+            Phase::Reading { span, round } => self.asks(alloc, span, round),
+            other => {
+                self.enters(other);
+                Ok(ignored(alloc))
+            }
+        }
+    }
+
+    /// All proofs of a round are true, of one version each: they are an instance, and the transaction goes on. The
+    /// proofs are taken out of the round, which is over.
+    fn agrees(
+        &mut self,
+        alloc: Global,
+        scenario: &Scenario,
+        reading: Option<&Reading>,
+    ) -> Result<Reaction, NoMemory>
+        ensures { IfOk result (λ reaction.
+            Gives
+            (place.agrees_in scenario.now self.old self.old.phase (option_copied reading.entry))
+            self.new reaction) }
+    {
+        let Some((span, rounds)) = span_in(&self.phase) else {
+            return Ok(ignored(alloc));
+        };
         let at = point_of(span);
         let Some(next) = self.move_made(scenario, at) else {
             return Ok(ignored(alloc));
         };
-        self.gathered.closes(agreed)?;
+        self.closes_round(alloc, reading)?;
         self.makes(alloc, scenario, at, next, rounds)
+    }
+
+    /// The proofs of the round that is awaited are taken out of it, and are an instance.
+    fn closes_round(&mut self, alloc: Global, reading: Option<&Reading>) -> Result<(), NoMemory>
+        ensures { OnOk result
+            (self.new
+            ≡ record (row.closes self.old
+            (option_map row.place_of (option_copied reading.entry))
+            (place.proofs_at self.old.phase)) { phase = self.new.phase }) }
+    {
+        let proofs = proofs_out_of(alloc, &mut self.phase)?;
+        let agreed = Instance {
+            reading: reading.map(|read| read.place),
+            proofs,
+        };
+        self.gathered.closes(agreed)?;
+        Ok(())
+    }
+}
+
+/// What the round that is awaited is over, and its number.
+fn span_in(phase: &Phase) -> Option<(Span, u32)>
+    ensures { result ≡ place.span_in phase.now }
+{
+    match phase {
+        Phase::Checking {
+            span,
+            round,
+            staple: _,
+        } => Some((*span, round.rounds())),
+        Phase::Reading { span, round } => Some((*span, round.rounds())),
+        _ => None,
+    }
+}
+
+/// The proofs of the round that is awaited, which is used up.
+fn proofs_out_of(alloc: Global, phase: &mut Phase) -> Result<List<Verdict>, NoMemory>
+    ensures { IfOk result (λ proofs. proofs ≡ place.proofs_at phase.old) }
+{
+    match phase {
+        Phase::Checking {
+            span: _,
+            round,
+            staple: _,
+        } => round.take_proofs(alloc),
+        Phase::Reading { span: _, round } => round.take_proofs(alloc),
+        _ => Ok(List::new(alloc)),
     }
 }
 
@@ -361,7 +417,7 @@ fn queries_upto(txn: &Transaction, number: u32) -> &[Query]
 }
 
 /// A reply comes into its round.
-fn counts(
+pub(crate) fn counts(
     alloc: Global,
     round: &mut Round,
     server: ServerId,
@@ -372,25 +428,6 @@ fn counts(
     let verdicts = verdicts.try_clone(alloc)?;
     round.reply(server, verdicts);
     Ok(())
-}
-
-/// The instance of a round's proofs, with the place of the reading after them if there was one.
-fn instance_of(
-    alloc: Global,
-    round: &Round,
-    reading: Option<&Reading>,
-) -> Result<Instance, NoMemory>
-    ensures { IfOk result (λ made.
-        made
-        ≡ record {
-          reading = option_map row.place_of (option_copied reading.entry);
-          proofs = replies.by_query (replies.proofs_in round.now.targets);
-        }) }
-{
-    Ok(Instance {
-        reading: reading.map(|read| read.place),
-        proofs: round.proofs(alloc)?,
-    })
 }
 
 /// What the authority told, at the place where it was sent.

@@ -6,6 +6,7 @@ ghost use Rattle.tp_coord.specs.Row as row;
 
 use crate::coordinator::{Coordinator, Phase, Span};
 use crate::decisions::without;
+use crate::rounds::counts;
 use std::alloc::Global;
 use std::mem;
 use tp_scheme::Point;
@@ -94,28 +95,20 @@ impl Coordinator {
             (row.vote_at scenario.now self.old self.old.phase server (vote.Yes verdicts.now))
             self.new reaction) }
     {
-        match mem::replace(&mut self.phase, Phase::Idle) {
+        match &mut self.phase {
             Phase::Checking {
                 span: Span::Commit,
                 round,
-                staple,
-            } => self.replied(
-                alloc,
-                scenario,
-                Span::Commit,
-                round,
-                staple,
-                server,
-                verdicts,
-            ),
+                staple: _,
+            } => {
+                counts(alloc, round, server, verdicts)?;
+                self.counted(alloc, scenario)
+            }
             Phase::Voting { awaited } => {
-                let left = without(awaited, server);
+                let left = without(mem::replace(awaited, List::new(alloc)), server);
                 self.votes_left(alloc, scenario, left)
             }
-            other => {
-                self.enters(other);
-                Ok(ignored(alloc))
-            }
+            _ => Ok(ignored(alloc)),
         }
     }
 
@@ -193,19 +186,16 @@ impl Coordinator {
             (row.verdicts_at scenario.now self.old self.old.phase server (Some verdicts.now))
             self.new reaction) }
     {
-        match mem::replace(&mut self.phase, Phase::Idle) {
+        match &mut self.phase {
             Phase::Checking {
-                span: Span::Validate { query },
+                span: Span::Validate { .. },
                 round,
-                staple,
+                staple: _,
             } => {
-                let span = Span::Validate { query };
-                self.replied(alloc, scenario, span, round, staple, server, verdicts)
+                counts(alloc, round, server, verdicts)?;
+                self.counted(alloc, scenario)
             }
-            other => {
-                self.enters(other);
-                Ok(ignored(alloc))
-            }
+            _ => Ok(ignored(alloc)),
         }
     }
 }

@@ -7,8 +7,8 @@
 //!   Whether it is awaited is told (`Round::reply`: `awaited`, `kept`; `Round::awaits`)
 //! - A judgement answers exactly as defined, and leaves exactly the defined round. Where memory is refused the
 //!   round is as before (`Round::judge`: `answer`, `next`, `memory`)
-//! - The number of the round, and the kept proofs of queries 1 to 16 by query (`Round::rounds`,
-//!   `Round::proofs`)
+//! - The number of the round, and the kept proofs of queries 1 to 16 by query, copied or taken out of the round
+//!   (`Round::rounds`, `Round::proofs`, `Round::take_proofs`)
 //! - A round waits only where a reply is missing, or the reading of a master that is to be read. Where nothing
 //!   is missing and every proof is true and has its administrator's target, the answer is that all is true;
 //!   where some proof is of another version and none is under global consistency, it is an update

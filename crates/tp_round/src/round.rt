@@ -10,8 +10,9 @@ ghost use Rattle.tp_round.specs.Replies as replies;
 ghost use Rattle.tp_round.specs.mirrors.Places as places;
 
 use crate::aim::{aim_of, any_outdated, met_by, named_by, renew};
-use crate::replies::{least_false, proofs_of};
+use crate::replies::{least_false, proofs_of, proofs_out_of};
 use std::alloc::Global;
+use std::mem;
 use tp_model::ADMINS_MAX;
 use tp_types::{
     AdminId, Level, List, Met, NoMemory, Reading, ServerId, TryClone, Verdict, Version,
@@ -318,5 +319,14 @@ impl Round {
             made ≡ replies.by_query (replies.proofs_in self.now.targets)) }
     {
         proofs_of(alloc, self.targets.as_slice())
+    }
+
+    /// The same proofs, taken out of the round, which is used up.
+    pub fn take_proofs(&mut self, alloc: Global) -> Result<List<Verdict>, NoMemory>
+        ensures { IfOk result (λ made.
+            made ≡ replies.by_query (replies.proofs_in self.old.targets)) }
+    {
+        let targets = mem::replace(&mut self.targets, List::new(alloc));
+        proofs_out_of(alloc, targets)
     }
 }
