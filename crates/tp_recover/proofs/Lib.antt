@@ -3,3 +3,4 @@ pub mod BootsApart
 pub mod HeldLemmas
 pub mod KeptLemmas
 pub mod LogLemmas
+pub mod TableLemmas

@@ -35,7 +35,7 @@ pub fn answer(alloc: Global, kept: Kept) -> Result<Held, NoMemory>
         settled: _,
         in_order,
     } = kept;
-    let prepared = by_age(alloc, prepared)?;
+    let prepared = by_age(alloc, prepared.into_made())?;
     Ok(Held {
         epoch,
         newest,

@@ -1,14 +1,15 @@
 //! What the records of a server's log come to, taken in one after another.
 ghost use Rattle.std.specs.Prelude.{◌≡◌, ◌+◌, ◌<◌, ◌^◌, None, fold, IfOk, OnOk};
+ghost use Rattle.tp_model.specs.SerialRun.{opening_store};
 ghost use Rattle.tp_recover.specs.Kept as rule;
 
 use crate::values::end;
 use crate::versions::{tell, tell_all};
 use std::alloc::Global;
-use tp_store::{known_at_first, opening_values};
+use tp_places::{Places, none_in_bulk};
+use tp_store::known_at_first;
 use tp_types::{
     List, NoMemory, Prepared, Record, Scenario, ServerId, Settled, TryClone, TxnId, Version, both,
-    none_for_each, take_at,
 };
 
 /// All that is kept of the records of a server's log.
@@ -21,34 +22,25 @@ pub struct Kept {
     /// The value of each item of the scenario.
     pub values: List<i128>,
     /// The last vote YES of each transaction that is not settled.
-    pub prepared: List<Option<Prepared>>,
+    pub prepared: Places<Prepared>,
     /// How each transaction was settled first.
     pub settled: List<Option<Settled>>,
     /// These settlements in the order of the log.
     pub in_order: List<Settled>,
 }
 
-/// A copy of a table, or the want of memory for it.
-fn copied<T: TryClone + Drop>(
-    alloc: Global,
-    table: &[Option<T>],
-) -> Result<List<Option<T>>, NoMemory>
+/// A copy of a table of settlements, or the want of memory for it.
+fn copied(alloc: Global, table: &[Option<Settled>]) -> Result<List<Option<Settled>>, NoMemory>
     ensures { IfOk result (λ made. made ≡ table.now) }
 {
-    let mut made = List::from_vec(Vec::with_capacity(alloc, table.len())?);
-    for place in table {
-        match place {
-            None => made.push(None)?,
-            Some(kept) => made.push(Some(kept.try_clone(alloc)?))?,
-        }
-    }
-    Ok(made)
+    let made = Vec::from_slice(alloc, table)?;
+    Ok(List::from_vec(made))
 }
 
 impl TryClone for Kept {
     fn try_clone(&self, alloc: Global) -> Result<Self, NoMemory> {
         let numbers = both(self.newest.try_clone(alloc), self.values.try_clone(alloc));
-        let prepared = copied(alloc, self.prepared.as_slice());
+        let prepared = self.prepared.try_clone(alloc);
         let settled = copied(alloc, self.settled.as_slice());
         let ends = both(settled, self.in_order.try_clone(alloc));
         let ((newest, values), (prepared, (settled, in_order))) = both(
@@ -76,22 +68,24 @@ fn settled_of(settled: &List<Option<Settled>>, txn: TxnId) -> Option<Settled>
 }
 
 impl Kept {
-    /// Before the first record.
-    pub fn opened(alloc: Global, scenario: &Scenario, server: ServerId) -> Result<Kept, NoMemory>
+    /// Before the first record. It is handed the values that the items have at first.
+    pub fn opened(
+        alloc: Global,
+        scenario: &Scenario,
+        server: ServerId,
+        values: List<i128>,
+    ) -> Result<Kept, NoMemory>
+        requires values { values ≡ opening_store scenario.now }
         ensures { IfOk result (λ made. made ≡ rule.kept_first scenario.now server) }
     {
         let txns = scenario.txns.len();
-        let numbers = both(
-            known_at_first(alloc, scenario, server),
-            opening_values(alloc, scenario.items.as_slice()),
-        );
-        let tables = both(none_for_each(alloc, txns), none_for_each(alloc, txns));
-        let ((newest, values), (prepared, settled)) = both(numbers, tables)?;
+        let newest = known_at_first(alloc, scenario, server);
+        let (newest, settled) = both(newest, none_in_bulk(alloc, txns))?;
         Ok(Kept {
             epoch: 1,
             newest,
             values,
-            prepared,
+            prepared: Places::none(alloc, txns),
             settled,
             in_order: List::new(alloc),
         })
@@ -104,8 +98,7 @@ impl Kept {
             Some(_) => Ok(()),
             None => {
                 let copy = vote.try_clone(alloc)?;
-                self.prepared.put(vote.txn.0 as usize, Some(copy));
-                Ok(())
+                self.prepared.put(vote.txn.0 as usize, copy)
             }
         }
     }
@@ -114,7 +107,7 @@ impl Kept {
         ensures { OnOk result (self.new ≡ rule.kept_end self.old settled None) }
     {
         let at = settled.txn.0 as usize;
-        let vote = take_at(&mut self.prepared, at);
+        let vote = self.prepared.take(at);
         end(&mut self.values, settled.outcome, &vote);
         self.settled.put(at, Some(settled));
         self.in_order.push(settled)

@@ -17,8 +17,9 @@
 //! - Where the boots of a log are counted, and its other records stand apart, the same is kept of it, and the same decided
 //!   (`add_apart`, `kept_apart`; `boots_stand_apart`)
 //!
-//! No call asks a condition of its caller: of a transaction that is not there nothing is prepared, and each of its
-//! settlements is listed; what is told of an administrator, or written of an item, that is not there is lost.
+//! No call asks a condition of the records: of a transaction that is not there nothing is prepared, and each of its
+//! settlements is listed; what is told of an administrator, or written of an item, that is not there is lost. Where values
+//! of items are handed over, they are those that the scenario says (`kept_apart`, `Kept::opened`).
 #![tactic(auto)]
 
 mod ages;

@@ -1,6 +1,7 @@
 //! What a server's log says.
 ghost use Rattle.std.specs.Prelude.{◌≡◌, ◌+◌, ◌<◌, ◌^◌, IfOk};
 ghost use Rattle.tp_types.specs.Each.{Each};
+ghost use Rattle.tp_model.specs.SerialRun.{opening_store};
 ghost use Rattle.tp_recover.specs.Held as rule;
 ghost use Rattle.tp_recover.specs.Kept.{kept};
 ghost use Rattle.tp_recover.specs.Laws.{HeldSays, IsOfScenario};
@@ -8,10 +9,31 @@ ghost use Rattle.tp_recover.specs.Laws.{HeldSays, IsOfScenario};
 use crate::answer::{Held, answer};
 use crate::kept::Kept;
 use std::alloc::Global;
+use tp_store::opening_values;
 use tp_types::{List, NoMemory, Record, Scenario, ServerId};
 
+/// All that is kept of the records of a server's log, over what the scenario says of the server at first, where the values of
+/// the items are handed over. One more boot can be counted, since no list has 2^64 - 2 members.
+pub fn kept_over(
+    alloc: Global,
+    scenario: &Scenario,
+    server: ServerId,
+    values: List<i128>,
+    records: &List<Record>,
+) -> Result<Kept, NoMemory>
+    requires values { values ≡ opening_store scenario.now }
+    ensures kept { IfOk result (λ made. made ≡ kept scenario.now server records.now) }
+    ensures epoch { IfOk result (λ made. made.epoch + 1 < 2 ^ 64) }
+{
+    let mut kept = Kept::opened(alloc, scenario, server, values)?;
+    match kept.take_all(alloc, records.as_slice()) {
+        Err(error) => Err(error),
+        Ok(()) => Ok(kept),
+    }
+}
+
 /// All that is kept of the records of a server's log, over what the scenario says of the server at first. One more boot can be
-/// counted, since no list has 2^64 - 2 members.
+/// counted.
 pub fn kept_of(
     alloc: Global,
     scenario: &Scenario,
@@ -21,11 +43,8 @@ pub fn kept_of(
     ensures kept { IfOk result (λ made. made ≡ kept scenario.now server records.now) }
     ensures epoch { IfOk result (λ made. made.epoch + 1 < 2 ^ 64) }
 {
-    let mut kept = Kept::opened(alloc, scenario, server)?;
-    match kept.take_all(alloc, records.as_slice()) {
-        Err(error) => Err(error),
-        Ok(()) => Ok(kept),
-    }
+    let values = opening_values(alloc, scenario.items.as_slice())?;
+    kept_over(alloc, scenario, server, values, records)
 }
 
 fn recovered(

@@ -7,34 +7,38 @@ ghost use Rattle.tp_store.specs.Rule as rule;
 ghost use Rattle.tp_server.specs.Booted as booted;
 ghost use Rattle.tp_server.specs.mirrors.Inquiries as mirror;
 
+use crate::entries::Entries;
 use crate::server::{Ballot, Entry, Server};
 use std::alloc::Global;
 use tp_lock::LockTable;
+use tp_places::Places;
 use tp_recover::{Kept, by_age};
-use tp_store::Store;
+use tp_store::{Ranges, Store};
 use tp_types::{
     Action, Actor, Body, Deed, InquireRequest, Letter, List, NoMemory, Prepared, Reaction, Record,
     Scenario, ServerId, TryClone, TxnId, Version, both,
 };
 
 impl<L: LockTable + Drop> Server<L> {
-    /// A server that boots, with a table of no locks on the scenario's items, and what it wants done: its next epoch is
-    /// forced, and then the coordinator of each transaction that it has prepared is asked for the outcome. Its state is
-    /// what its log comes to, and the locks of what it has prepared.
+    /// A server that boots, with a share of the ranges of the scenario's items and a table of no locks on them, and what it
+    /// wants done: its next epoch is forced, and then the coordinator of each transaction that it has prepared is asked
+    /// for the outcome. Its state is what its log comes to, and the locks of what it has prepared.
     pub fn booted(
         alloc: Global,
         scenario: &Scenario,
         server: ServerId,
+        ranges: Ranges,
         kept: Kept,
         locks: L,
     ) -> Result<(Server<L>, Reaction), NoMemory>
         requires epoch { kept.epoch + 1 < 2 ^ 64 }
+        requires ranges { ranges ≡ map rule.bounds_of scenario.now.items }
         requires locks { L.table locks ≡ lock.opening (length scenario.now.items) }
         ensures { IfOk result (λ made.
             Gives (booted.boot_row scenario.now server kept) made.0 made.1) }
     {
-        let letters = inquiries(alloc, server, kept.prepared.as_slice());
-        let state = Server::restored(alloc, scenario, server, kept, locks);
+        let letters = inquiries(alloc, server, &kept.prepared);
+        let state = Server::restored(alloc, scenario, server, ranges, kept, locks);
         let (state, letters) = both(state, letters)?;
         let reaction = Reaction {
             append: Some(Record::Boot),
@@ -47,10 +51,12 @@ impl<L: LockTable + Drop> Server<L> {
         alloc: Global,
         scenario: &Scenario,
         server: ServerId,
+        ranges: Ranges,
         kept: Kept,
         locks: L,
     ) -> Result<Server<L>, NoMemory>
         requires epoch { kept.epoch + 1 < 2 ^ 64 }
+        requires ranges { ranges ≡ map rule.bounds_of scenario.now.items }
         requires locks { L.table locks ≡ lock.opening (length scenario.now.items) }
         ensures { IfOk result (λ made. made ≡ booted.booted scenario.now server kept) }
     {
@@ -62,8 +68,8 @@ impl<L: LockTable + Drop> Server<L> {
             settled,
             in_order: _,
         } = kept;
-        let entries = entries_of(alloc, prepared.as_slice());
-        let store = store_of(alloc, scenario, values, newest, prepared.as_slice());
+        let entries = entries_of(alloc, &prepared);
+        let store = store_of(alloc, scenario, ranges, values, newest, &prepared);
         let locks = locks_of(alloc, locks, prepared);
         let (locks, (store, entries)) = both(locks, both(store, entries))?;
         Ok(Server {
@@ -88,8 +94,8 @@ fn inquiry(server: ServerId, txn: TxnId) -> Letter
     }
 }
 
-/// The same of each transaction that is prepared, by number.
-fn inquiries(
+/// The same of each transaction that is prepared in these places.
+fn inquiries_in(
     alloc: Global,
     server: ServerId,
     table: &[Option<Prepared>],
@@ -103,6 +109,17 @@ fn inquiries(
         }
     }
     Ok(letters)
+}
+
+/// The same of each transaction that is prepared, by number.
+fn inquiries(
+    alloc: Global,
+    server: ServerId,
+    table: &Places<Prepared>,
+) -> Result<List<Letter>, NoMemory>
+    ensures { IfOk result (λ letters. letters ≡ mirror.inquiries server (by_txn table.now)) }
+{
+    inquiries_in(alloc, server, table.made())
 }
 
 /// The entry of what is prepared.
@@ -123,17 +140,30 @@ fn entry_of(alloc: Global, vote: &Prepared) -> Result<Entry, NoMemory>
     })
 }
 
-fn entries_of(alloc: Global, table: &[Option<Prepared>]) -> Result<List<Option<Entry>>, NoMemory>
-    ensures { IfOk result (λ made. made ≡ map (option_map booted.restored) table.now) }
+/// The entries of these places.
+fn boxes_of(
+    alloc: Global,
+    table: &[Option<Prepared>],
+) -> Result<List<Option<Box<Entry, Global>>>, NoMemory>
+    ensures { IfOk result (λ made.
+        map (option_map (λ b. b.value)) made ≡ map (option_map booted.restored) table.now) }
 {
     let mut made = List::from_vec(Vec::with_capacity(alloc, table.len())?);
     for place in table {
         match place {
             None => made.push(None)?,
-            Some(vote) => made.push(Some(entry_of(alloc, vote)?))?,
+            Some(vote) => made.push(Some(Box::new(alloc, entry_of(alloc, vote)?)?))?,
         }
     }
     Ok(made)
+}
+
+/// The entry of each transaction that is prepared.
+fn entries_of(alloc: Global, table: &Places<Prepared>) -> Result<Entries, NoMemory>
+    ensures { IfOk result (λ made. made ≡ map (option_map booted.restored) table.now) }
+{
+    let made = boxes_of(alloc, table.made())?;
+    Ok(Entries::from_made(table.count(), made))
 }
 
 fn keep_deed(store: &mut Store, alloc: Global, txn: TxnId, deed: &Deed) -> Result<(), NoMemory>
@@ -175,15 +205,17 @@ fn keep_prepared(
 fn store_of(
     alloc: Global,
     scenario: &Scenario,
+    ranges: Ranges,
     values: List<i128>,
     newest: List<Version>,
-    table: &[Option<Prepared>],
+    table: &Places<Prepared>,
 ) -> Result<Store, NoMemory>
+    requires { ranges ≡ map rule.bounds_of scenario.now.items }
     ensures { IfOk result (λ made.
         made ≡ booted.with_prepared_kept (rule.restored scenario.now values newest) table.now) }
 {
-    let mut store = Store::restored(alloc, scenario, values, newest)?;
-    match keep_prepared(&mut store, alloc, table) {
+    let mut store = Store::over(alloc, ranges, scenario.txns.len(), values, newest);
+    match keep_prepared(&mut store, alloc, table.made()) {
         Err(error) => Err(error),
         Ok(()) => Ok(store),
     }
@@ -215,17 +247,24 @@ fn lock_prepared<L: LockTable>(
     Ok(())
 }
 
+/// What is prepared, by age.
+fn aged(alloc: Global, table: Places<Prepared>) -> Result<List<Prepared>, NoMemory>
+    ensures { IfOk result (λ made. made ≡ by_age (by_txn table)) }
+{
+    by_age(alloc, table.into_made())
+}
+
 /// The table once a lock was asked for each deed of what is prepared, by age.
 fn locks_of<L: LockTable + Drop>(
     alloc: Global,
     locks: L,
-    table: List<Option<Prepared>>,
+    table: Places<Prepared>,
 ) -> Result<L, NoMemory>
     ensures { IfOk result (λ made.
         L.table made ≡ booted.with_prepared_locked (by_age (by_txn table)) (L.table locks)) }
 {
     let mut locks = locks;
-    let prepared = by_age(alloc, table)?;
+    let prepared = aged(alloc, table)?;
     match lock_prepared(&mut locks, alloc, prepared.as_slice()) {
         Err(error) => Err(error),
         Ok(()) => Ok(locks),

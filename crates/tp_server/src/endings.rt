@@ -74,7 +74,7 @@ impl<L: LockTable + Drop> Server<L> {
         let at = settled.txn.0 as usize;
         self.end(settled.txn, settled.outcome);
         self.settled.put(at, Some(settled));
-        self.entries.put(at, None);
+        self.entries.clear(at);
         self.locks.release(settled.txn);
         let mut letters = List::of_one(alloc, letter)?;
         while let Some(grant) = self.locks.take_granted() {

@@ -16,7 +16,7 @@ use tp_model::{action_of, deed_of, item_of, query_at};
 use tp_types::{
     AdminId, Answer, Body, Deed, DoneReply, Letter, List, Newer, NoMemory, Place, Query,
     QueryRequest, Reaction, Scenario, TryClone, TxnId, Verdict, Version, ignored, nothing,
-    sent_alone, take_at,
+    sent_alone,
 };
 
 impl<L: LockTable + Drop> Server<L> {
@@ -137,9 +137,9 @@ impl<L: LockTable + Drop> Server<L> {
             self.new reaction) }
     {
         let waiting = request.try_clone(alloc)?;
-        let mut entry = self.take_entry(alloc, sent, request);
+        let mut entry = self.take_entry(alloc, sent, request)?;
         entry.waiting = Some(waiting);
-        self.entries.put(request.txn.0 as usize, Some(entry));
+        self.entries.put(request.txn.0 as usize, entry)?;
         Ok(nothing(alloc))
     }
 
@@ -157,11 +157,10 @@ impl<L: LockTable + Drop> Server<L> {
             ≡ sends self.new (letter ∷ [])) }
     {
         let kept = given.try_clone(alloc)?;
-        let mut entry = self.take_entry(alloc, sent, request);
+        let mut entry = self.take_entry(alloc, sent, request)?;
         let epoch = entry.epoch;
-        let noted = entry.answers.push(reply_of(request, epoch, kept));
-        self.entries.put(request.txn.0 as usize, Some(entry));
-        noted?;
+        entry.answers.push(reply_of(request, epoch, kept))?;
+        self.entries.put(request.txn.0 as usize, entry)?;
         Ok(self.reply(request.txn, Body::Done(reply_of(request, epoch, given))))
     }
 
@@ -305,7 +304,7 @@ impl<L: LockTable + Drop> Server<L> {
         ensures { OnOk result
             (Continues (row.resumes scenario.now self.old owner) self.new letters.old letters.new) }
     {
-        let Some(request) = self.taken_waiting(owner) else {
+        let Some(request) = self.taken_waiting(owner)? else {
             return Ok(());
         };
         let resumed = self.resumes_at(alloc, scenario, &request, letters);
@@ -343,16 +342,16 @@ impl<L: LockTable + Drop> Server<L> {
 
     /// Takes what waits at an owner's entry.
     #[tactic(auto, using(crate::proofs::Tables::set_twice))]
-    fn taken_waiting(&mut self, owner: TxnId) -> Option<QueryRequest>
-        ensures taken { result ≡ row.waiting_at self.old owner }
-        ensures left { self.new ≡ row.without_waiting self.old owner }
+    fn taken_waiting(&mut self, owner: TxnId) -> Result<Option<QueryRequest>, NoMemory>
+        ensures taken { IfOk result (λ waiting. waiting ≡ row.waiting_at self.old owner) }
+        ensures left { OnOk result (self.new ≡ row.without_waiting self.old owner) }
     {
-        match take_at(&mut self.entries, owner.0 as usize) {
-            None => None,
+        match self.entries.take(owner.0 as usize) {
+            None => Ok(None),
             Some(mut entry) => {
                 let waiting = entry.waiting.take();
-                self.entries.put(owner.0 as usize, Some(entry));
-                waiting
+                self.entries.put(owner.0 as usize, entry)?;
+                Ok(waiting)
             }
         }
     }
@@ -370,31 +369,36 @@ impl<L: LockTable + Drop> Server<L> {
         ensures { IfOk result (λ epoch.
             IsNoted self.old sent request.now deed verdict self.new epoch) }
     {
-        let mut entry = self.take_entry(alloc, sent, request);
+        let mut entry = self.take_entry(alloc, sent, request)?;
         let epoch = entry.epoch;
-        let noted = adds_run(&mut entry, request, deed, verdict);
-        self.entries.put(request.txn.0 as usize, Some(entry));
-        noted?;
+        adds_run(entry.as_mut(), request, deed, verdict)?;
+        self.entries.put(request.txn.0 as usize, entry)?;
         Ok(epoch)
     }
 
     /// Takes the entry of a transaction, or makes one.
-    fn take_entry(&mut self, alloc: Global, sent: Place, request: &QueryRequest) -> Entry
-        ensures taken { result ≡ entry_of self.old sent request.now }
-        ensures left { self.new
-            ≡ record self.old { entries = slice_set self.old.entries request.now.txn.0 None } }
+    fn take_entry(
+        &mut self,
+        alloc: Global,
+        sent: Place,
+        request: &QueryRequest,
+    ) -> Result<Box<Entry, Global>, NoMemory>
+        ensures taken { IfOk result (λ entry. entry.value ≡ entry_of self.old sent request.now) }
+        ensures left { OnOk result (self.new
+            ≡ record self.old { entries = slice_set self.old.entries request.now.txn.0 None }) }
     {
-        match take_at(&mut self.entries, request.txn.0 as usize) {
-            Some(entry) => entry,
-            None => Entry {
-                age: request.age.unwrap_or(sent),
-                epoch: self.epoch,
-                answers: List::new(alloc),
-                waiting: None,
-                deeds: List::new(alloc),
-                ballot: None,
-            },
+        if let Some(entry) = self.entries.take(request.txn.0 as usize) {
+            return Ok(entry);
         }
+        let entry = Entry {
+            age: request.age.unwrap_or(sent),
+            epoch: self.epoch,
+            answers: List::new(alloc),
+            waiting: None,
+            deeds: List::new(alloc),
+            ballot: None,
+        };
+        Ok(Box::new(alloc, entry)?)
     }
 
     fn keep(

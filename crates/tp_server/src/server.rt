@@ -8,14 +8,15 @@ ghost use Rattle.tp_server.specs.Opened as opened;
 ghost use Rattle.tp_server.specs.Verdicts.{HasFewRules};
 ghost use Rattle.tp_lock.specs.Rule as lock;
 
+use crate::entries::Entries;
 use std::alloc::Global;
 use std::marker::Model;
 use tp_lock::LockTable;
+use tp_places::none_in_bulk;
 use tp_store::Store;
 use tp_types::{
     Actor, Body, Deed, DoneReply, Letter, List, Mail, NoMemory, Place, PushNotice, QueryRequest,
     Reaction, Record, Scenario, ServerId, Settled, Told, TxnId, Verdict, both, ignored,
-    none_for_each,
 };
 
 /// What a server voted YES on: the turn of the request, and its verdicts.
@@ -52,7 +53,7 @@ pub struct Server<L: LockTable> {
     /// How each transaction of the scenario was settled here, if it was.
     pub settled: List<Option<Settled>>,
     /// The entry of each transaction of the scenario, if it has one.
-    pub entries: List<Option<Entry>>,
+    pub entries: Entries,
     /// The locks on the scenario's items.
     pub locks: L,
 }
@@ -83,15 +84,14 @@ impl<L: LockTable + Drop> Server<L> {
         requires { L.table locks ≡ lock.opening (length scenario.now.items) }
         ensures { IfOk result (λ made. made ≡ opened.opening scenario.now server) }
     {
-        let settled = none_for_each(alloc, scenario.txns.len());
-        let tables = both(settled, none_for_each(alloc, scenario.txns.len()));
-        let (store, (settled, entries)) = both(Store::opened(alloc, scenario, server), tables)?;
+        let settled = none_in_bulk(alloc, scenario.txns.len());
+        let (store, settled) = both(Store::opened(alloc, scenario, server), settled)?;
         Ok(Server {
             server,
             epoch: 1,
             store,
             settled,
-            entries,
+            entries: Entries::none(alloc, scenario.txns.len()),
             locks,
         })
     }
@@ -136,10 +136,7 @@ impl<L: LockTable + Drop> Server<L> {
     pub(crate) fn entry_at(&self, txn: TxnId) -> Option<&Entry>
         ensures { option_copied result ≡ row.entry_at self.now txn }
     {
-        match self.entries.get(txn.0 as usize) {
-            Some(Some(entry)) => Some(entry),
-            _ => None,
-        }
+        self.entries.get(txn.0 as usize)
     }
 
     pub(crate) fn reply(&self, txn: TxnId, body: Body) -> Letter

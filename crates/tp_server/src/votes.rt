@@ -1,11 +1,12 @@
 //! What a server does on a Prepare: it evaluates what was done, and votes.
-ghost use Rattle.std.specs.Prelude.{◌≡◌, Option, Some, None, [], ◌∷◌, slice_get, slice_set, IfOk};
+ghost use Rattle.std.specs.Prelude.{◌≡◌, Option, Some, None, [], ◌∷◌, slice_get, slice_set, IfOk, OnOk};
 ghost use Rattle.tp_types.specs.Effect.{Gives};
 ghost use Rattle.std.specs.Option.{option_flatten};
 ghost use Rattle.tp_server.specs.declared.server.Entry.{Entry};
 ghost use Rattle.tp_server.specs.Row as row;
 ghost use Rattle.tp_server.specs.Verdicts.{HasFewRules};
 
+use crate::entries::Entries;
 use crate::server::{Ballot, Entry, Server};
 use crate::verdicts::{learn, verdicts_on};
 use std::alloc::Global;
@@ -13,7 +14,7 @@ use tp_lock::LockTable;
 use tp_types::{
     Body, Letter, List, No, NoMemory, Outcome, PrepareRequest, Prepared, Reaction, Record,
     Scenario, Settled, TryClone, TxnId, Verdict, Vote, VoteReply, both, forced_and_sent, ignored,
-    sent_alone, take_at,
+    sent_alone,
 };
 
 impl<L: LockTable + Drop> Server<L> {
@@ -212,7 +213,7 @@ impl<L: LockTable + Drop> Server<L> {
             turn: forced.turn,
             verdicts: kept,
         };
-        cast(&mut self.entries, forced.txn.0 as usize, ballot);
+        cast(&mut self.entries, forced.txn.0 as usize, ballot)?;
         let vote = VoteReply {
             txn: forced.txn,
             turn: forced.turn,
@@ -225,12 +226,16 @@ impl<L: LockTable + Drop> Server<L> {
 
 /// Casts a vote at the entry that stands there.
 #[tactic(auto, using(crate::proofs::Tables::set_twice))]
-fn cast(entries: &mut List<Option<Entry>>, at: usize, ballot: Ballot)
-    ensures { (entry : Entry) → option_flatten (slice_get entries.old at) ≡ Some entry
-        → entries.new ≡ slice_set entries.old at (Some (record entry { ballot = Some ballot })) }
+fn cast(entries: &mut Entries, at: usize, ballot: Ballot) -> Result<(), NoMemory>
+    ensures { OnOk result
+        ((entry : Entry) → option_flatten (slice_get entries.old at) ≡ Some entry
+        → entries.new ≡ slice_set entries.old at (Some (record entry { ballot = Some ballot }))) }
 {
-    if let Some(mut entry) = take_at(entries, at) {
-        entry.ballot = Some(ballot);
-        entries.put(at, Some(entry));
+    match entries.take(at) {
+        None => Ok(()),
+        Some(mut entry) => {
+            entry.ballot = Some(ballot);
+            entries.put(at, entry)
+        }
     }
 }
