@@ -6,7 +6,7 @@ ghost use Rattle.tp_model.specs.Valid.{is_valid};
 ghost use Rattle.tp_model.specs.Words.step;
 
 use crate::draws::{drawn_below, next_state};
-use crate::servers::{admin, items, name, numbered, servers};
+use crate::servers::{NUMBERED_MAX, admin, items, name, numbered, servers};
 use std::alloc::Global;
 use tp_types::{
     ItemId, Level, List, NoMemory, Operand, Query, Scenario, Scheme, Step, Term, Transaction, TxnId,
@@ -15,13 +15,11 @@ use tp_types::{
 fn sum(alloc: Global, constant: u32) -> Result<List<Term>, NoMemory>
     ensures { IfOk result (λ made. made ≡ bulk.sum_of constant) }
 {
-    let mut sum = List::of_one(
-        alloc,
-        Term {
-            minus: false,
-            operand: Operand::Register(1),
-        },
-    )?;
+    let mut sum = List::from_vec(Vec::with_capacity(alloc, 2)?);
+    sum.push(Term {
+        minus: false,
+        operand: Operand::Register(1),
+    })?;
     sum.push(Term {
         minus: false,
         operand: Operand::Constant(i64::from(constant)),
@@ -38,13 +36,11 @@ fn queries_by(
 ) -> Result<List<Query>, NoMemory>
     ensures { IfOk result (λ made. made ≡ bulk.queries_by read written constant) }
 {
-    let mut queries = List::of_one(
-        alloc,
-        Query::Read {
-            item: ItemId(read),
-            into: 1,
-        },
-    )?;
+    let mut queries = List::from_vec(Vec::with_capacity(alloc, 2)?);
+    queries.push(Query::Read {
+        item: ItemId(read),
+        into: 1,
+    })?;
     queries.push(Query::Write {
         item: ItemId(written),
         expr: sum(alloc, constant)?,
@@ -68,12 +64,17 @@ fn queries(alloc: Global, x: u64) -> Result<List<Query>, NoMemory>
     )
 }
 
-fn transaction(alloc: Global, number: u32, x: u64) -> Result<Transaction, NoMemory>
+fn transaction(
+    alloc: Global,
+    room: &mut Vec<u8>,
+    number: u32,
+    x: u64,
+) -> Result<Transaction, NoMemory>
     requires here { x < 2147483648 }
     ensures { IfOk result (λ made. made ≡ bulk.txn_at number x) }
 {
     Ok(Transaction {
-        name: numbered(alloc, b"t", number)?,
+        name: numbered(alloc, room, b"t", number)?,
         subject: name(alloc, b"ann")?,
         scheme: Scheme::Deferred,
         level: Level::View,
@@ -87,10 +88,11 @@ fn transactions(alloc: Global, count: u32) -> Result<List<Transaction>, NoMemory
     requires few { count ≤ 128 }
     ensures { IfOk result (λ made. made ≡ bulk.txns_from count 0 count) }
 {
-    let mut txns = List::new(alloc);
+    let mut txns = List::from_vec(Vec::with_capacity(alloc, count as usize)?);
+    let mut room = Vec::with_capacity(alloc, NUMBERED_MAX)?;
     let mut x = u64::from(count);
     for number in 0..count {
-        txns.push(transaction(alloc, number, x)?)?;
+        txns.push(transaction(alloc, &mut room, number, x)?)?;
         x = next_state(next_state(next_state(x)));
     }
     Ok(txns)
@@ -100,7 +102,7 @@ fn submissions(alloc: Global, count: u32) -> Result<List<Step>, NoMemory>
     ensures { IfOk result (λ made.
         made ≡ map (λ number. step.Submit (record { 0 = number })) (range_with_len 0 count)) }
 {
-    let mut steps = List::new(alloc);
+    let mut steps = List::from_vec(Vec::with_capacity(alloc, count as usize)?);
     for number in 0..count {
         steps.push(Step::Submit { txn: TxnId(number) })?;
     }

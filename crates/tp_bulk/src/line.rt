@@ -43,6 +43,9 @@ fn put_count(out: &mut Vec<u8>, word: &[u8], number: u64) -> Result<(), NoMemory
     put_number(out, number)
 }
 
+/// The bytes of most lines.
+const USUAL: usize = 64;
+
 /// The line of a run of so many transactions: how many were committed and aborted, and how many steps and mails it took.
 pub fn run_line(
     alloc: Global,
@@ -52,7 +55,7 @@ pub fn run_line(
 ) -> Result<Text, NoMemory>
     ensures { IfOk result (λ made. made.0 ≡ line.line_of transactions facts.now ending.now) }
 {
-    let mut out = Vec::new(alloc);
+    let mut out = Vec::with_capacity(alloc, USUAL)?;
     put_count(&mut out, b"bulk ", u64::from(transactions))?;
     put_count(&mut out, b" commits ", count(facts, Outcome::Commit) as u64)?;
     put_count(&mut out, b" aborts ", count(facts, Outcome::Abort) as u64)?;

@@ -20,13 +20,22 @@ pub(crate) fn name(alloc: Global, bytes: &[u8]) -> Result<Name, NoMemory>
     }
 }
 
-/// A name of a letter and a number.
-pub(crate) fn numbered(alloc: Global, letter: &[u8], number: u32) -> Result<Name, NoMemory>
+/// The bytes of the longest name of a letter and a number.
+pub(crate) const NUMBERED_MAX: usize = 11;
+
+/// A name of a letter and a number. It is spelled in this room, which serves one name after another.
+pub(crate) fn numbered(
+    alloc: Global,
+    room: &mut Vec<u8>,
+    letter: &[u8],
+    number: u32,
+) -> Result<Name, NoMemory>
     ensures { IfOk result (λ name. name ≡ letter.now ++ decimal number) }
 {
-    let mut bytes = Vec::from_slice(alloc, letter)?;
-    bytes.extend_from_slice(Buffer::new().format(number).as_bytes())?;
-    name(alloc, bytes.as_slice())
+    room.clear();
+    room.extend_from_slice(letter)?;
+    room.extend_from_slice(Buffer::new().format(number).as_bytes())?;
+    name(alloc, room.as_slice())
 }
 
 fn policy(alloc: Global) -> Result<Policy, NoMemory>
@@ -46,7 +55,8 @@ fn policy(alloc: Global) -> Result<Policy, NoMemory>
 pub(crate) fn admin(alloc: Global) -> Result<Admin, NoMemory>
     ensures { IfOk result (λ made. made ≡ administrator) }
 {
-    let mut library = List::of_one(alloc, policy(alloc)?)?;
+    let mut library = List::from_vec(Vec::with_capacity(alloc, 2)?);
+    library.push(policy(alloc)?)?;
     library.push(policy(alloc)?)?;
     Ok(Admin {
         name: name(alloc, b"hr")?,
@@ -55,11 +65,11 @@ pub(crate) fn admin(alloc: Global) -> Result<Admin, NoMemory>
     })
 }
 
-fn item(alloc: Global, number: u32) -> Result<Item, NoMemory>
+fn item(alloc: Global, room: &mut Vec<u8>, number: u32) -> Result<Item, NoMemory>
     ensures { IfOk result (λ made. made ≡ item_at number) }
 {
     Ok(Item {
-        name: numbered(alloc, b"i", number)?,
+        name: numbered(alloc, room, b"i", number)?,
         server: ServerId(number / 4),
         admin: AdminId(0),
         min: 0,
@@ -71,9 +81,10 @@ fn item(alloc: Global, number: u32) -> Result<Item, NoMemory>
 pub(crate) fn items(alloc: Global) -> Result<List<Item>, NoMemory>
     ensures { IfOk result (λ made. made ≡ map item_at (range_with_len 0 16)) }
 {
-    let mut items = List::new(alloc);
+    let mut items = List::from_vec(Vec::with_capacity(alloc, 16)?);
+    let mut room = Vec::with_capacity(alloc, NUMBERED_MAX)?;
     for number in 0..16 {
-        items.push(item(alloc, number)?)?;
+        items.push(item(alloc, &mut room, number)?)?;
     }
     Ok(items)
 }
@@ -83,19 +94,20 @@ fn items_from(alloc: Global, first: u32) -> Result<List<ItemId>, NoMemory>
     ensures { IfOk result (λ made.
         made ≡ map (λ item. record { 0 = item }) (range_with_len first 4)) }
 {
-    let mut items = List::of_one(alloc, ItemId(first))?;
+    let mut items = List::from_vec(Vec::with_capacity(alloc, 4)?);
+    items.push(ItemId(first))?;
     items.push(ItemId(first + 1))?;
     items.push(ItemId(first + 2))?;
     items.push(ItemId(first + 3))?;
     Ok(items)
 }
 
-fn server(alloc: Global, number: u32) -> Result<ServerDecl, NoMemory>
+fn server(alloc: Global, room: &mut Vec<u8>, number: u32) -> Result<ServerDecl, NoMemory>
     requires { number < 4 }
     ensures { IfOk result (λ made. made ≡ server_at number) }
 {
     Ok(ServerDecl {
-        name: numbered(alloc, b"s", number)?,
+        name: numbered(alloc, room, b"s", number)?,
         knows: List::of_one(alloc, Version(number % 2 + 1))?,
         items: items_from(alloc, 4 * number)?,
     })
@@ -104,9 +116,10 @@ fn server(alloc: Global, number: u32) -> Result<ServerDecl, NoMemory>
 pub(crate) fn servers(alloc: Global) -> Result<List<ServerDecl>, NoMemory>
     ensures { IfOk result (λ made. made ≡ map server_at (range_with_len 0 4)) }
 {
-    let mut servers = List::new(alloc);
+    let mut servers = List::from_vec(Vec::with_capacity(alloc, 4)?);
+    let mut room = Vec::with_capacity(alloc, NUMBERED_MAX)?;
     for number in 0..4 {
-        servers.push(server(alloc, number)?)?;
+        servers.push(server(alloc, &mut room, number)?)?;
     }
     Ok(servers)
 }

@@ -15,6 +15,9 @@ use std::marker::Model;
 use std::mem;
 use tp_types::{List, NoMemory};
 
+/// The bytes that a fresh disk has room for, so that a short log does not move.
+const FIRST_BYTES: usize = 128;
+
 /// How many calls still pass, and how many faults there have been.
 #[derive(Drop)]
 struct Fuse {
@@ -120,7 +123,7 @@ impl MemoryDisk {
     pub fn fresh(alloc: Global) -> Result<MemoryDisk, NoMemory>
         ensures { IfOk result (λ disk. disk ≡ memory.fresh) }
     {
-        let mut content = Vec::new(alloc);
+        let mut content = Vec::with_capacity(alloc, FIRST_BYTES)?;
         content.push(0)?;
         Ok(MemoryDisk {
             content,

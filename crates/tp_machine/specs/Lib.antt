@@ -2,6 +2,7 @@ pub mod Fits
 pub mod Logs
 pub mod Machine
 pub mod Named
+pub mod Opening
 pub mod Parts
 pub mod Views
 pub mod WorldView

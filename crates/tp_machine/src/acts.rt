@@ -9,6 +9,7 @@ ghost use Rattle.tp_machine.specs.Fits.{FitLogs, received};
 ghost use Rattle.tp_machine.specs.mirrors.Acts.{HasEitherLogs, Moves, SameLogs, SameUp, with_down};
 ghost use Rattle.tp_machine.specs.mirrors.History.{Notes, SameHistory};
 ghost use Rattle.tp_machine.specs.Machine as machine;
+ghost use Rattle.tp_machine.specs.Opening.{opening_of};
 ghost use Rattle.tp_machine.specs.Views.{cut_off, forces_at, is_cut};
 ghost use Rattle.tp_machine.specs.WorldView.{machine_of, state_of};
 ghost use Rattle.tp_server.specs.Verdicts.{HasFewRules};
@@ -18,13 +19,14 @@ ghost use Rattle.tp_offices.specs.Master as office;
 use crate::actors::{Actors, Locks};
 use crate::error::StepError;
 use crate::history::History;
+use crate::opening::Opening;
 use crate::part::{Act, alone, coordinator_boots, crash_alone, no_act, server_boots};
 use std::alloc::Global;
 use tp_coord::Coordinator;
 use tp_offices::{CLOCK_END, Master};
 use tp_types::{
-    Actor, AdminId, CredId, Cut, List, Mail, NoMemory, Record, Scenario, ServerId, Step, TxnId,
-    What,
+    Actor, AdminId, CredId, Cut, List, Mail, NoMemory, Record, Scenario, ServerId, Step, TryClone,
+    TxnId, What, both,
 };
 
 /// Whether a transaction was submitted.
@@ -225,9 +227,11 @@ pub fn act(
     history: &mut History,
     alloc: Global,
     scenario: &Scenario,
+    opening: &Opening,
     taken: &Step,
 ) -> Result<Option<Record>, NoMemory>
     requires few { HasFewRules scenario.now }
+    requires opening { opening.now ≡ opening_of scenario.now }
     requires servers { length scenario.now.servers < 2 ^ 32 }
     requires allowed { machine.refusal (state_of actors.old history.old) taken.now ≡ None }
     requires fits { FitLogs
@@ -250,7 +254,7 @@ pub fn act(
             cut: Some(cut),
         } => crash_in(actors, history, alloc, scenario, actor, cut),
         _ => {
-            act_whole(actors, history, alloc, scenario, taken)?;
+            act_whole(actors, history, alloc, scenario, opening, taken)?;
             Ok(None)
         }
     }
@@ -262,9 +266,11 @@ fn act_whole(
     history: &mut History,
     alloc: Global,
     scenario: &Scenario,
+    opening: &Opening,
     taken: &Step,
 ) -> Result<(), NoMemory>
     requires few { HasFewRules scenario.now }
+    requires opening { opening.now ≡ opening_of scenario.now }
     requires servers { length scenario.now.servers < 2 ^ 32 }
     requires whole { is_cut taken.now ≡ false }
     requires allowed { machine.refusal (state_of actors.old history.old) taken.now ≡ None }
@@ -293,7 +299,7 @@ fn act_whole(
         Step::Crash { cut: Some(_), .. } => unreachable!(),
         Step::Boot {
             actor: Actor::Server(at),
-        } => boot_server(actors, history, alloc, scenario, at),
+        } => boot_server(actors, history, alloc, scenario, opening, at),
         Step::Boot {
             actor: Actor::Coordinator(txn),
         } => boot_coordinator(actors, history, alloc, scenario, txn),
@@ -408,8 +414,10 @@ fn boot_server(
     history: &mut History,
     alloc: Global,
     scenario: &Scenario,
+    opening: &Opening,
     at: ServerId,
 ) -> Result<(), NoMemory>
+    requires opening { opening.now ≡ opening_of scenario.now }
     requires fits { FitLogs (machine.boots scenario.now actors.old (actor.Server at)).actors }
     ensures ok { OnOk result
         (machine_of actors.new history.new
@@ -425,8 +433,12 @@ fn boot_server(
     let Some(part) = actors.servers.get_mut(at.0 as usize) else {
         return boots_nobody(history, alloc, actor);
     };
-    let locks = Locks::opened(alloc, scenario.items.len())?;
-    let (state, act) = server_boots(part, alloc, scenario, at, locks)?;
+    let own = both(
+        opening.try_clone(alloc),
+        Locks::opened(alloc, scenario.items.len()),
+    );
+    let (own, locks) = own?;
+    let (state, act) = server_boots(part, alloc, scenario, at, own, locks)?;
     match history.note(Step::Boot { actor }, act.happened, act.letters) {
         Ok(()) => {
             part.comes_up(state);

@@ -6,7 +6,7 @@ ghost use Rattle.tp_machine.specs.Machine.{facts_of, mails_of};
 
 use std::alloc::Global;
 use tp_pending::Pending;
-use tp_types::{Fact, Letter, List, Mail, NoMemory, Place, Step, What};
+use tp_types::{Fact, Letter, List, Mail, NoMemory, Place, Scenario, Step, What, both};
 
 /// The steps, facts and mails of a run so far.
 #[derive(Drop)]
@@ -22,15 +22,26 @@ pub struct History {
 impl History {
     ghost use Rattle.tp_machine.specs.mirrors.History.{IsEmpty, Notes, SameHistory};
 
-    /// Before the first step.
-    pub fn new(alloc: Global) -> Result<History, NoMemory>
+    /// Before the first step of this scenario, with room for a run of it in which each request is made about once, so that the
+    /// lists seldom move as they grow.
+    pub fn new(alloc: Global, scenario: &Scenario) -> Result<History, NoMemory>
         ensures { IfOk result (λ made. IsEmpty made) }
     {
-        let pending = Pending::new(alloc)?;
+        let Room {
+            steps,
+            facts,
+            mails,
+        } = room_for(scenario);
+        let pending = Pending::new(alloc, mails);
+        let lists = both(with_room(alloc, facts), with_room(alloc, mails));
+        let (steps, ((facts, mails), pending)) = both(
+            with_room(alloc, steps),
+            both(lists, pending),
+        )?;
         Ok(History {
-            steps: List::new(alloc),
-            facts: List::new(alloc),
-            mails: List::new(alloc),
+            steps,
+            facts,
+            mails,
             pending,
         })
     }
@@ -104,6 +115,39 @@ impl History {
     {
         self.pending.take(number);
     }
+}
+
+/// How many steps, facts and mails there is room for from the start. Only how often lists move hangs on it.
+struct Room {
+    steps: usize,
+    facts: usize,
+    mails: usize,
+}
+
+/// About as many as a run has in which each query is asked once, each server three times beside that, and all of these answer.
+fn room_for(scenario: &Scenario) -> Room {
+    let mut facts: usize = 0;
+    let mut mails: usize = 0;
+    for txn in scenario.txns.as_slice() {
+        let queries = txn.queries.len();
+        let servers = queries.min(scenario.servers.len());
+        facts = facts.saturating_add(servers.saturating_add(2));
+        mails = mails.saturating_add(queries.saturating_mul(2));
+        mails = mails.saturating_add(servers.saturating_mul(6));
+    }
+    let listed = scenario.steps.len().saturating_add(scenario.txns.len());
+    Room {
+        steps: listed.saturating_add(mails),
+        facts,
+        mails,
+    }
+}
+
+/// An empty list with room for so many members.
+fn with_room<T: Drop>(alloc: Global, room: usize) -> Result<List<T>, NoMemory>
+    ensures { IfOk result (λ made. made ≡ []) }
+{
+    Ok(List::from_vec(Vec::with_capacity(alloc, room)?))
 }
 
 /// Adds to each list. Where memory is refused each list still begins with what it had.

@@ -7,10 +7,12 @@ ghost use Rattle.tp_lock.specs.Rule as lock;
 ghost use Rattle.tp_machine.specs.Fits.{FitsLog, HasShortLog};
 ghost use Rattle.tp_log.specs.Images.{blocks};
 ghost use Rattle.tp_machine.specs.Logs.{IsDiskOf};
+ghost use Rattle.tp_machine.specs.Opening.{opening_of};
 ghost use Rattle.tp_machine.specs.Views.{StandsAt};
 ghost use Rattle.tp_machine.specs.mirrors.Acts as acts;
 ghost use Rattle.tp_machine.specs.mirrors.Acts.{Acts, Boots};
 ghost use Rattle.tp_machine.specs.Machine as machine;
+ghost use Rattle.tp_model.specs.SerialRun.{opening_store};
 ghost use Rattle.tp_model.specs.Words.actor;
 ghost use Rattle.tp_model.specs.Words.what;
 ghost use Rattle.tp_model.specs.Words.{What};
@@ -19,6 +21,7 @@ ghost use Rattle.tp_server.specs.Verdicts.{HasFewRules};
 ghost use Rattle.tp_types.specs.Effect.{Gives};
 
 use crate::disks::{force, tear};
+use crate::opening::Opening;
 use crate::past::Past;
 use std::alloc::Global;
 use std::marker::Model;
@@ -107,19 +110,28 @@ impl<S: Drop> Part<S> {
     }
 
     /// All that is kept of the records that the disk gives, by which a server boots. Of these it reads those alone that the
-    /// log gained since it was read last. One more boot can be counted.
+    /// log gained since it was read last. It takes over the opening values. One more boot can be counted.
     pub fn kept(
         &mut self,
         alloc: Global,
         scenario: &Scenario,
         server: ServerId,
+        values: List<i128>,
     ) -> Result<Kept, NoMemory>
+        requires values { values ≡ opening_store scenario.now }
         ensures kept { IfOk result (λ made. made ≡ kept scenario.now server self.old.log) }
         ensures epoch { IfOk result (λ made. made.epoch + 1 < 2 ^ 64) }
         ensures same { self.new ≡ self.old }
     {
         self.past.read_on(alloc, &mut self.log)?;
-        kept_apart(alloc, scenario, server, &self.past.others, self.past.boots)
+        kept_apart(
+            alloc,
+            scenario,
+            server,
+            values,
+            &self.past.others,
+            self.past.boots,
+        )
     }
 
     /// The actor comes up with this state.
@@ -516,8 +528,10 @@ pub fn server_boots<L: LockTable + Drop>(
     alloc: Global,
     scenario: &Scenario,
     at: ServerId,
+    opening: Opening,
     locks: L,
 ) -> Result<(Server<L>, Act), NoMemory>
+    requires opening { opening ≡ opening_of scenario.now }
     requires locks { L.table locks ≡ lock.opening (length scenario.now.items) }
     requires fits { HasShortLog (machine.server_boots scenario.now at part.old).part }
     ensures ok { IfOk result (λ made.
@@ -525,8 +539,9 @@ pub fn server_boots<L: LockTable + Drop>(
     ensures up { machine.is_part_down part.new ≡ machine.is_part_down part.old }
     ensures log { OnErr result (part.new.log ≡ part.old.log) }
 {
-    let kept = part.kept(alloc, scenario, at)?;
-    let (state, reaction) = Server::booted(alloc, scenario, at, kept, locks)?;
+    let Opening { ranges, values } = opening;
+    let kept = part.kept(alloc, scenario, at, values)?;
+    let (state, reaction) = Server::booted(alloc, scenario, at, ranges, kept, locks)?;
     let Reaction { append, letters } = reaction;
     let forced = part.force(alloc, &append);
     drop(append);

@@ -18,6 +18,7 @@ use crate::actors::{Actors, Locks};
 use crate::acts::{act, is_armed, is_submitted, refusal};
 use crate::error::StepError;
 use crate::history::History;
+use crate::opening::Opening;
 use std::alloc::Global;
 use std::marker::Model;
 use std::sync::ledger::Ledger;
@@ -34,6 +35,7 @@ use tp_types::{
 #[derive(Drop)]
 pub struct World {
     scenario: Scenario,
+    opening: Opening,
     given_up: bool,
     actors: Actors,
     history: History,
@@ -42,6 +44,8 @@ pub struct World {
 impl Model for World {
     ghost use Rattle.std.specs.Coded.{codes};
     ghost use Rattle.tp_types.specs.contracts.policy.Cond as cond;
+    ghost use Rattle.std.specs.Prelude.{◌≡◌};
+    ghost use Rattle.tp_machine.specs.Opening.{opening_of};
     ghost use Rattle.tp_machine.specs.WorldView.{WorldView, IsWorld, machine_of};
 
     ghost Value = { WorldView };
@@ -58,7 +62,7 @@ impl Model for World {
       scenario = w.scenario;
       given_up = w.given_up;
       machine = machine_of w.actors w.history;
-    }) };
+    }) × (w.opening ≡ opening_of w.scenario) };
 }
 
 impl World {
@@ -69,10 +73,22 @@ impl World {
         requires fit { AllFitLogs scenario.now }
         ensures { IfOk result (λ world. world ≡ start scenario.now) }
     {
-        let actors = Actors::opened(alloc, scenario)?;
-        let history = History::new(alloc)?;
+        let own = scenario.try_clone(alloc)?;
+        World::of(alloc, own)
+    }
+
+    /// The same of a scenario that the world takes over, so that it is not copied.
+    pub fn of(alloc: Global, scenario: Scenario) -> Result<World, NoMemory>
+        requires valid { valid.is_valid scenario ≡ true }
+        requires fit { AllFitLogs scenario }
+        ensures { IfOk result (λ world. world ≡ start scenario) }
+    {
+        let opening = Opening::of(alloc, &scenario)?;
+        let actors = Actors::opened(alloc, &scenario)?;
+        let history = History::new(alloc, &scenario)?;
         Ok(World {
-            scenario: scenario.try_clone(alloc)?,
+            scenario,
+            opening,
             given_up: false,
             actors,
             history,
@@ -122,6 +138,7 @@ impl World {
                 &mut self.history,
                 alloc,
                 &self.scenario,
+                &self.opening,
                 taken,
             ) {
                 Ok(forced) => Ok(forced),

@@ -3,7 +3,7 @@ ghost use Rattle.std.specs.Prelude.{◌≡◌, ◌+◌, ◌-◌, ◌<◌, ◌≤
 ghost use Rattle.std.specs.List.{list_any};
 ghost use Rattle.tp_pending.specs.Flags.{marked};
 
-use crate::chain::{link, reach};
+use crate::chain::{end_alone, link, reach};
 use std::alloc::Global;
 use std::marker::Model;
 use tp_types::{List, NoMemory};
@@ -34,14 +34,15 @@ impl Model for Pending {
 }
 
 impl Pending {
-    /// Nothing was posted.
-    pub fn new(alloc: Global) -> Result<Pending, NoMemory>
+    /// Nothing was posted. There is room for so many numbers from the start.
+    pub fn new(alloc: Global, room: usize) -> Result<Pending, NoMemory>
         ensures { IfOk result (λ made. made ≡ []) }
     {
-        let after = List::of_one(alloc, 0usize)?;
-        let before = List::of_one(alloc, 0usize)?;
+        let flags = List::from_vec(Vec::with_capacity(alloc, room)?);
+        let after = end_alone(alloc, room)?;
+        let before = end_alone(alloc, room)?;
         Ok(Pending {
-            flags: List::new(alloc),
+            flags,
             after,
             before,
         })

@@ -23,6 +23,15 @@ pub fn start(alloc: Global, scenario: &Scenario) -> Result<World, NoMemory>
     World::start(alloc, scenario)
 }
 
+/// The same of a scenario that the world takes over, so that it is not copied.
+pub fn start_of(alloc: Global, scenario: Scenario) -> Result<World, NoMemory>
+    requires { valid.is_valid scenario ≡ true }
+    ensures { IfOk result (λ world. world ≡ views.start scenario) }
+{
+    records_fit();
+    World::of(alloc, scenario)
+}
+
 /// What happened so far, in order. It is a trusted history at every moment, whoever is down; all that mails, records and
 /// facts name exists; and all values are far from the ends of their numbers.
 pub fn facts(world: &World) -> &List<Fact>

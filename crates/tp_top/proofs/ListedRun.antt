@@ -90,7 +90,7 @@ refused_here : (sc : Scenario) (m : Machine) (at : ℕ) (taken : Step) (steps : 
     → refused_from sc m at (taken ∷ steps) ≡ Some (record { at = at; why = why })
 refused_here sc m at taken steps why e = ap (λ (w : Option StepError). refused_or w at (refused_from sc (machine_after sc m taken) (at + 1) steps)) e
 
-scenario_kept : (old new : WorldView) (steps : List Step) (count : ℕ) → Followed old new steps count → new.scenario ≡ old.scenario
+pub scenario_kept : (old new : WorldView) (steps : List Step) (count : ℕ) → Followed old new steps count → new.scenario ≡ old.scenario
 scenario_kept old new steps count f = ap (λ (w : WorldView). w.scenario) f.now
 
 stepped_one : (old mid new : WorldView) (done : List Step) (taken : Step) → mid ≡ world_after old done → Does mid new taken → new ≡ world_after old (done ++ taken ∷ [])

@@ -16,7 +16,7 @@ ghost use Rattle.tp_top.specs.mirrors.Answers.{IsInput, IsRefusal, IsReported, I
 ghost use Rattle.tp_words.specs.declared.commands.Command.TheVariants as Command;
 
 use crate::bulk::bulk;
-use crate::ended::{RunEnd, ending, leave, run};
+use crate::ended::{RunEnd, ending, leave, listed_in, run};
 use crate::refusals::{refusal_line, step_line};
 use crate::traced::traced;
 use std::alloc::Global;
@@ -28,7 +28,7 @@ use tp_runs::data::serial;
 use tp_runs::history;
 use tp_runs::views::trusted;
 use tp_scenario::{ScenarioError, read};
-use tp_types::{Fact, List, NoMemory, Scenario, Text};
+use tp_types::{Fact, List, NoMemory, Scenario, Step, Text};
 use tp_words::Command;
 
 /// What comes of a command.
@@ -68,11 +68,7 @@ fn answer_by_run<I: Source>(alloc: Global, input: &mut I) -> Answer
 {
     match scenario_in(alloc, input) {
         Err(answer) => answer,
-        Ok(scenario) => {
-            let answer = reported(alloc, &scenario);
-            leave(scenario);
-            answer
-        }
+        Ok(scenario) => reported(alloc, scenario),
     }
 }
 
@@ -84,11 +80,7 @@ fn answer_by_trace<I: Source>(alloc: Global, input: &mut I) -> Answer
 {
     match scenario_in(alloc, input) {
         Err(answer) => answer,
-        Ok(scenario) => {
-            let answer = traced(alloc, &scenario);
-            leave(scenario);
-            answer
-        }
+        Ok(scenario) => traced(alloc, scenario),
     }
 }
 
@@ -131,9 +123,9 @@ fn no_text(alloc: Global) -> Text
 }
 
 /// Runs a scenario and prints its report.
-fn reported(alloc: Global, scenario: &Scenario) -> Answer
-    requires { valid.is_valid scenario.now ≡ true }
-    ensures { IsReported scenario.now result }
+fn reported(alloc: Global, scenario: Scenario) -> Answer
+    requires { valid.is_valid scenario ≡ true }
+    ensures { IsReported scenario result }
 {
     match report(alloc, scenario) {
         Err(NoMemory) => Answer::NoMemory,
@@ -141,25 +133,28 @@ fn reported(alloc: Global, scenario: &Scenario) -> Answer
     }
 }
 
-fn report(alloc: Global, scenario: &Scenario) -> Result<Answer, NoMemory>
-    requires { valid.is_valid scenario.now ≡ true }
-    ensures { IfOk result (IsReported scenario.now) }
+fn report(alloc: Global, scenario: Scenario) -> Result<Answer, NoMemory>
+    requires { valid.is_valid scenario ≡ true }
+    ensures { IfOk result (IsReported scenario) }
 {
-    let mut world = history::start(alloc, scenario)?;
-    let answer = report_in(alloc, &mut world, scenario);
+    let steps = listed_in(alloc, &scenario)?;
+    let mut world = history::start_of(alloc, scenario)?;
+    let answer = report_in(alloc, &mut world, steps.as_slice());
     leave(world);
     answer
 }
 
-/// Runs a scenario in its world, and prints the report, or the line of the first step that is refused.
-fn report_in(alloc: Global, world: &mut World, scenario: &Scenario) -> Result<Answer, NoMemory>
-    requires valid { valid.is_valid scenario.now ≡ true }
-    requires fresh { world.old ≡ start scenario.now }
-    ensures { IfOk result (IsReported scenario.now) }
+/// Runs a scenario, of which these steps are listed, in its world, and prints the report, or the line of the first step that
+/// is refused.
+fn report_in(alloc: Global, world: &mut World, steps: &[Step]) -> Result<Answer, NoMemory>
+    requires valid { valid.is_valid world.old.scenario ≡ true }
+    requires fresh { world.old ≡ start world.old.scenario }
+    requires listed { steps.now ≡ world.old.scenario.steps }
+    ensures { IfOk result (IsReported world.old.scenario) }
 {
-    match run(world, alloc, scenario)? {
+    match run(world, alloc, steps)? {
         RunEnd::Stopped(refused) => {
-            let line = step_line(alloc, scenario, refused)?;
+            let line = step_line(alloc, world.scenario(), refused)?;
             Ok(Answer::Refused {
                 text: no_text(alloc),
                 line,

@@ -9,12 +9,12 @@ ghost use Rattle.tp_runs.specs.Laws.{IsTrustedState};
 ghost use Rattle.tp_top.specs.mirrors.Answers.{IsCounted, IsWhole};
 
 use crate::answer::{Answer, proved_facts};
-use crate::ended::{RunEnd, ending, leave, run};
+use crate::ended::{RunEnd, ending, leave, listed_in, run};
 use std::alloc::Global;
 use tp_bulk::{run_line, scenario_of};
 use tp_machine::World;
 use tp_runs::history;
-use tp_types::{NoMemory, Scenario, Text};
+use tp_types::{NoMemory, Scenario, Step, Text};
 
 /// Makes the large scenario of so many transactions, and runs it.
 pub(crate) fn bulk(alloc: Global, count: u32) -> Answer
@@ -34,35 +34,36 @@ fn counted(alloc: Global, count: u32) -> Result<Answer, NoMemory>
     ensures { IfOk result (IsCounted count) }
 {
     let scenario = scenario_of(alloc, count)?;
-    let answer = count_run(alloc, count, &scenario);
-    leave(scenario);
-    answer
+    count_run(alloc, count, scenario)
 }
 
-fn count_run(alloc: Global, count: u32, scenario: &Scenario) -> Result<Answer, NoMemory>
-    requires made { scenario.now ≡ made.scenario_of count }
-    requires valid { valid.is_valid scenario.now ≡ true }
+fn count_run(alloc: Global, count: u32, scenario: Scenario) -> Result<Answer, NoMemory>
+    requires made { scenario ≡ made.scenario_of count }
+    requires valid { valid.is_valid scenario ≡ true }
     ensures { IfOk result (IsCounted count) }
 {
-    let mut world = history::start(alloc, scenario)?;
-    let answer = count_in(alloc, count, &mut world, scenario);
+    let steps = listed_in(alloc, &scenario)?;
+    let mut world = history::start_of(alloc, scenario)?;
+    let answer = count_in(alloc, count, &mut world, steps.as_slice());
     leave(world);
     answer
 }
 
-/// Runs the scenario in its world. Its listed steps are submissions, each of another transaction, and none is refused.
+/// Runs the scenario, of which these steps are listed, in its world. They are submissions, each of another transaction, and
+/// none is refused.
 fn count_in(
     alloc: Global,
     count: u32,
     world: &mut World,
-    scenario: &Scenario,
+    steps: &[Step],
 ) -> Result<Answer, NoMemory>
-    requires made { scenario.now ≡ made.scenario_of count }
-    requires valid { valid.is_valid scenario.now ≡ true }
-    requires fresh { world.old ≡ start scenario.now }
+    requires made { world.old.scenario ≡ made.scenario_of count }
+    requires valid { valid.is_valid world.old.scenario ≡ true }
+    requires fresh { world.old ≡ start world.old.scenario }
+    requires listed { steps.now ≡ world.old.scenario.steps }
     ensures { IfOk result (IsCounted count) }
 {
-    match run(world, alloc, scenario)? {
+    match run(world, alloc, steps)? {
         RunEnd::Stopped(_) => unreachable!(),
         RunEnd::AtRest => Ok(Answer::Text(line_in(alloc, count, world)?)),
     }

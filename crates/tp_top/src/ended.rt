@@ -12,7 +12,7 @@ use std::mem::forget;
 use tp_auto::drain;
 use tp_machine::World;
 use tp_runs::history;
-use tp_types::{Ending, NoMemory, Scenario};
+use tp_types::{Ending, List, NoMemory, Scenario, Step};
 
 /// How a run ends.
 #[derive(Clone, Copy)]
@@ -23,13 +23,22 @@ pub enum RunEnd {
     Stopped(StepRefusal),
 }
 
-/// Does all steps of a scenario in its world before the first one.
-pub(crate) fn run(world: &mut World, alloc: Global, scenario: &Scenario) -> Result<RunEnd, NoMemory>
-    requires valid { valid.is_valid scenario.now ≡ true }
-    requires fresh { world.old ≡ start scenario.now }
-    ensures { IfOk result (HasRun scenario.now world.new) }
+/// The steps that a scenario lists, for who runs it in a world that takes it over.
+pub(crate) fn listed_in(alloc: Global, scenario: &Scenario) -> Result<List<Step>, NoMemory>
+    ensures { IfOk result (λ steps. steps ≡ scenario.now.steps) }
 {
-    match follow(world, alloc, scenario.steps.as_slice())? {
+    Ok(List::from_vec(Vec::from_slice(alloc, scenario.steps.as_slice())?))
+}
+
+/// Does all steps of a scenario, of which these are listed, in its world before the first one.
+pub(crate) fn run(world: &mut World, alloc: Global, steps: &[Step]) -> Result<RunEnd, NoMemory>
+    requires valid { valid.is_valid world.old.scenario ≡ true }
+    requires fresh { world.old ≡ start world.old.scenario }
+    requires listed { steps.now ≡ world.old.scenario.steps }
+    ensures run { IfOk result (HasRun world.old.scenario world.new) }
+    ensures kept { OnOk result (world.new.scenario ≡ world.old.scenario) }
+{
+    match follow(world, alloc, steps)? {
         Some(refused) => Ok(RunEnd::Stopped(refused)),
         None => settle(world, alloc),
     }
@@ -38,7 +47,8 @@ pub(crate) fn run(world: &mut World, alloc: Global, scenario: &Scenario) -> Resu
 /// Does the automatic steps of a world after all of its listed ones.
 fn settle(world: &mut World, alloc: Global) -> Result<RunEnd, NoMemory>
     requires here { IsListed world.old }
-    ensures { IfOk result (HasRun world.old.scenario world.new) }
+    ensures run { IfOk result (HasRun world.old.scenario world.new) }
+    ensures kept { OnOk result (world.new.scenario ≡ world.old.scenario) }
 {
     drain(world, alloc)?;
     Ok(RunEnd::AtRest)

@@ -1,5 +1,5 @@
 //! The listed steps: they are done in order, until one is refused.
-ghost use Rattle.std.specs.Prelude.{◌≡◌, false, IfOk};
+ghost use Rattle.std.specs.Prelude.{◌≡◌, false, IfOk, OnOk};
 ghost use Rattle.tp_types.specs.Each.{Each};
 ghost use Rattle.tp_machine.specs.Named.{IsStepOf};
 ghost use Rattle.tp_top.specs.mirrors.Answers.{Follows};
@@ -25,7 +25,8 @@ pub fn follow(
 ) -> Result<Option<StepRefusal>, NoMemory>
     requires ids { Each (IsStepOf world.old.scenario) steps.now }
     requires up { world.old.given_up ≡ false }
-    ensures { IfOk result (Follows world.old world.new steps.now) }
+    ensures follows { IfOk result (Follows world.old world.new steps.now) }
+    ensures kept { OnOk result (world.new.scenario ≡ world.old.scenario) }
 {
     for (at, taken) in steps.iter().enumerate() {
         match world.step(alloc, taken) {

@@ -11,7 +11,7 @@ ghost use Rattle.tp_trace.specs.Blocks.{ending_text, trace_text};
 ghost use Rattle.tp_types.specs.Each.{Each};
 
 use crate::answer::Answer;
-use crate::ended::{ending, leave};
+use crate::ended::{ending, leave, listed_in};
 use crate::listed::StepRefusal;
 use crate::refusals::step_line;
 use std::alloc::Global;
@@ -28,9 +28,9 @@ use tp_types::{List, NoMemory, Scenario, Step, Text};
 const ROOM: usize = 256;
 
 /// Runs a scenario and prints its trace.
-pub(crate) fn traced(alloc: Global, scenario: &Scenario) -> Answer
-    requires { valid.is_valid scenario.now ≡ true }
-    ensures { IsTraced scenario.now result }
+pub(crate) fn traced(alloc: Global, scenario: Scenario) -> Answer
+    requires { valid.is_valid scenario ≡ true }
+    ensures { IsTraced scenario result }
 {
     match trace(alloc, scenario) {
         Err(NoMemory) => Answer::NoMemory,
@@ -38,26 +38,29 @@ pub(crate) fn traced(alloc: Global, scenario: &Scenario) -> Answer
     }
 }
 
-fn trace(alloc: Global, scenario: &Scenario) -> Result<Answer, NoMemory>
-    requires { valid.is_valid scenario.now ≡ true }
-    ensures { IfOk result (IsTraced scenario.now) }
+fn trace(alloc: Global, scenario: Scenario) -> Result<Answer, NoMemory>
+    requires { valid.is_valid scenario ≡ true }
+    ensures { IfOk result (IsTraced scenario) }
 {
-    let mut world = history::start(alloc, scenario)?;
-    let answer = trace_in(alloc, &mut world, scenario);
+    let steps = listed_in(alloc, &scenario)?;
+    let mut world = history::start_of(alloc, scenario)?;
+    let answer = trace_in(alloc, &mut world, steps.as_slice());
     leave(world);
     answer
 }
 
-/// Runs a scenario in its world, and prints the trace, or that of the steps before the first one that is refused.
-fn trace_in(alloc: Global, world: &mut World, scenario: &Scenario) -> Result<Answer, NoMemory>
-    requires valid { valid.is_valid scenario.now ≡ true }
-    requires fresh { world.old ≡ start scenario.now }
-    ensures { IfOk result (IsTraced scenario.now) }
+/// Runs a scenario, of which these steps are listed, in its world, and prints the trace, or that of the steps before the first
+/// one that is refused.
+fn trace_in(alloc: Global, world: &mut World, steps: &[Step]) -> Result<Answer, NoMemory>
+    requires valid { valid.is_valid world.old.scenario ≡ true }
+    requires fresh { world.old ≡ start world.old.scenario }
+    requires listed { steps.now ≡ world.old.scenario.steps }
+    ensures { IfOk result (IsTraced world.old.scenario) }
 {
-    let mut out = first_line(alloc, scenario)?;
-    match put_listed(&mut out, alloc, world, scenario.steps.as_slice())? {
+    let mut out = first_line(alloc, steps.len())?;
+    match put_listed(&mut out, alloc, world, steps)? {
         Some(refused) => {
-            let line = step_line(alloc, scenario, refused)?;
+            let line = step_line(alloc, world.scenario(), refused)?;
             Ok(Answer::Refused {
                 text: Text(List::from_vec(out)),
                 line,
@@ -70,11 +73,11 @@ fn trace_in(alloc: Global, world: &mut World, scenario: &Scenario) -> Result<Ans
     }
 }
 
-/// The first line of a trace, with room for what the listed steps will say.
-fn first_line(alloc: Global, scenario: &Scenario) -> Result<Vec<u8>, NoMemory>
+/// The first line of a trace, with room for what so many listed steps will say.
+fn first_line(alloc: Global, listed: usize) -> Result<Vec<u8>, NoMemory>
     ensures { IfOk result (λ out. out.items ≡ codes "trace 1\n") }
 {
-    let mut out = Vec::with_capacity(alloc, scenario.steps.len().saturating_mul(ROOM))?;
+    let mut out = Vec::with_capacity(alloc, listed.saturating_mul(ROOM))?;
     put(&mut out, b"trace 1\n")?;
     Ok(out)
 }

@@ -5,8 +5,8 @@ use Rattle.tp_machine.specs.mirrors.Disks.{records_on}
 use Rattle.tp_machine.proofs.basics.Disks.{log_in}
 use Rattle.tp_machine.proofs.part.Part.kept.Goals as goal
 
-pub kept_apart-requires : goal.kept_apart-requires
-kept_apart-requires g c = c.in_ok-read_on.ensures.ok.few
+pub kept_apart-requires-clause-boots : goal.kept_apart-requires-clause-boots
+kept_apart-requires-clause-boots g c = c.in_ok-read_on.ensures.ok.few
 
 pub returns-clause-kept : goal.returns-clause-kept
 returns-clause-kept g c =
