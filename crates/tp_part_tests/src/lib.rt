@@ -22,6 +22,8 @@ mod made;
 #[cfg(test)]
 mod offices;
 #[cfg(test)]
+mod places;
+#[cfg(test)]
 mod plain;
 #[cfg(test)]
 mod policy_text;

@@ -3,6 +3,7 @@ use crate::made::list;
 use crate::small_scenario::small;
 use std::process::Abort;
 use tp_recover::{Held, Kept, add_apart, by_age, decision_of, held, kept_apart, kept_of};
+use tp_store::opening_values;
 use tp_types::{
     Action, Cause, CommitRecord, Decided, Decision, Deed, ItemId, List, Outcome, Prepared, Record,
     ServerId, Settled, TryClone, TxnId, Version,
@@ -135,7 +136,7 @@ fn all_kept(rt: &(impl Abort + AllocGlobal), records: List<Record>) -> Kept {
 
 /// Whether this transaction is prepared, by its number.
 fn has_prepared(kept: &Kept, txn: usize) -> bool {
-    matches!(kept.prepared.get(txn), Some(Some(_)))
+    kept.prepared.get(txn).is_some()
 }
 
 /// Whether this transaction is settled, by its number.
@@ -162,7 +163,9 @@ fn kept_beside_its_boots(rt: &(impl Abort + AllocGlobal)) -> Kept {
     let records = list(rt, [Record::Boot, vote(rt, 0, 4, 0, 8), Record::Boot]);
     let boots = add_apart(&mut others, records).expect(rt, "memory for a record");
     assert!(*rt; boots == 2 && others.len() == 1);
-    let found = kept_apart(rt.alloc(), &scenario, ServerId(0), &others, 2);
+    let opening = opening_values(rt.alloc(), scenario.items.as_slice());
+    let values = opening.expect(rt, "memory for the values");
+    let found = kept_apart(rt.alloc(), &scenario, ServerId(0), values, &others, 2);
     drop(scenario);
     drop(others);
     found.expect(rt, "memory for what is kept")
@@ -179,7 +182,7 @@ fn boots_are_counted_beside_the_others(rt: HostRuntime) {
 fn what_is_prepared_is_put_by_age(rt: HostRuntime) {
     let records = list(&rt, [vote(&rt, 0, 9, 0, 8), vote(&rt, 1, 4, 2, 5)]);
     let kept = all_kept(&rt, records);
-    let placed = by_age(rt.alloc(), kept.prepared).expect(&rt, "memory for the order");
+    let placed = by_age(rt.alloc(), kept.prepared.into_made()).expect(&rt, "memory for the order");
     let first = match placed.get(0) {
         None => false,
         Some(vote) => vote.txn.0 == 1,

@@ -1,7 +1,7 @@
 //! A store, call by call.
 use crate::made::{assert_case, list};
 use crate::small_scenario::small;
-use tp_store::Store;
+use tp_store::{Ranges, Store};
 use tp_types::{AdminId, ItemId, ServerId, TxnId, Version};
 
 /// A call of a store, or what a call is to answer.
@@ -150,5 +150,28 @@ fn begins_with_what_a_log_leaves(rt: HostRuntime) {
     assert!(rt; store.value(ItemId(0)) == 7 && store.value(ItemId(2)) == -2);
     assert!(rt; store.newest(AdminId(0)) == Version(3));
     assert!(rt; store.first_outside(TxnId(0)) == None);
+    drop(store);
+}
+
+#[test]
+fn ranges_are_shared(rt: HostRuntime) {
+    let scenario = small(&rt);
+    let ranges = Ranges::of(rt.alloc(), scenario.items.as_slice()).expect(&rt, "memory for ranges");
+    let shared = ranges.share().expect(&rt, "room for one store more");
+    drop(ranges);
+    let values = list(&rt, [7, 1, -2]);
+    let known = list(&rt, [Version(3), Version(1)]);
+    let mut store = Store::over(rt.alloc(), shared, scenario.txns.len(), values, known);
+    let beyond = match scenario.items.get(0) {
+        None => 0,
+        Some(item) => i128::from(item.max) + 1,
+    };
+    drop(scenario);
+    store
+        .write(rt.alloc(), TxnId(1), 4, ItemId(0), beyond)
+        .expect(&rt, "memory for a write");
+    assert!(rt; store.first_outside(TxnId(1)) == Some((4, beyond)));
+    assert!(rt; store.first_outside(TxnId(0)) == None);
+    assert!(rt; store.read(TxnId(0), ItemId(0)) == 7);
     drop(store);
 }

@@ -5,6 +5,7 @@ use std::process::Abort;
 use tp_machine::Part;
 use tp_recover::{Kept, kept_of};
 use tp_scenario::read;
+use tp_store::opening_values;
 use tp_types::{AdminId, Cut, Record, Scenario, ServerId, Told, Version};
 
 /// An actor that has forced one record. What its state is makes no difference here.
@@ -130,7 +131,9 @@ fn known_twice(
     scenario: &Scenario,
     part: &mut Part<u64>,
 ) -> (Known, Known) {
-    let on = part.kept(rt.alloc(), scenario, ServerId(0));
+    let values = opening_values(rt.alloc(), scenario.items.as_slice());
+    let values = values.expect(rt, "memory for opening values");
+    let on = part.kept(rt.alloc(), scenario, ServerId(0), values);
     let on = known_of(on.expect(rt, "memory for what is kept"));
     let records = part.records(rt.alloc()).expect(rt, "memory for records");
     let whole = kept_of(rt.alloc(), scenario, ServerId(0), &records);
