@@ -1,5 +1,6 @@
 //! A disk in memory, which can be stopped and crash.
 ghost use Rattle.std.specs.Prelude.{◌≡◌, ◌≤◌, ◌<◌, ◌⊎◌, ◌++◌, ℕ, List, length, Some, None, drop, take, min, OnOk, OnErr, IfOk, IsErrOf};
+ghost use Rattle.std.specs.List.{cons_option};
 ghost use Rattle.std.proofs.Common.{inl, inr, ⊎_elim};
 ghost use Rattle.tp_device.specs.Disks as disks;
 ghost use Rattle.tp_device.specs.Disks.{Cut, CallEffect, MayLeave, Passes, ReadsAt, Sync, Write};
@@ -67,8 +68,14 @@ fn overwrite(content: &mut Vec<u8>, at: usize, piece: &[u8]) -> Result<(), Alloc
     ensures ok { OnOk result (content.new.items ≡ disks.with_piece content.old.items at piece.now) }
     ensures err { OnErr result (content.new.items ≡ content.old.items) }
 {
+    // a record goes behind the end, and the byte of its gate into the content: each is one copy
+    if at == content.len() {
+        return content.extend_from_slice(piece);
+    }
     let (over, past) = piece.split_at(piece.len().min(content.len() - at));
-    content.extend_from_slice(past)?;
+    if !past.is_empty() {
+        content.extend_from_slice(past)?;
+    }
     content[at..at + over.len()].copy_from_slice(over);
     Ok(())
 }
@@ -85,7 +92,20 @@ fn blank(content: &mut [u8], span: Span, fill: u8)
     }
 }
 
-/// A disk in memory. It keeps its content, and the ranges that were written since the last sync.
+/// Fills the first range, where there is one, and then each later one.
+fn blank_all(content: &mut [u8], first: Option<Span>, later: &[Span], fill: u8)
+    ensures { content.new ≡ memory.with_blanks fill content.old (cons_option first later.now) }
+{
+    if let Some(span) = first {
+        blank(content, span, fill);
+    }
+    for span in later {
+        blank(content, *span, fill);
+    }
+}
+
+/// A disk in memory. It keeps its content, and the ranges that were written since the last sync. The first of them
+/// stands in the disk itself, so that none takes memory where each write is synced before the next.
 /// It tells no past: its meaning of "since an earlier moment" has the two ends alone. Nothing that is proved of a
 /// log uses more of a disk than the bounds of the trait.
 #[derive(Drop)]
@@ -93,12 +113,16 @@ pub struct MemoryDisk {
     content: Vec<u8>,
     least: usize,
     greatest: usize,
-    written: List<Span>,
+    /// The first range that was written since the last sync.
+    first: Option<Span>,
+    /// The ranges that were written after it.
+    later: List<Span>,
     fuse: Fuse,
 }
 
 impl Model for MemoryDisk {
-    ghost use Rattle.std.specs.Prelude.{◌≤◌, length};
+    ghost use Rattle.std.specs.Prelude.{◌≡◌, ◌≤◌, [], None, length};
+    ghost use Rattle.std.specs.List.{cons_option};
     ghost use Rattle.tp_device.specs.Memory.{Memory};
 
     ghost Value = { Memory };
@@ -108,14 +132,15 @@ impl Model for MemoryDisk {
         seen = m.content.items;
         least = m.least;
         greatest = m.greatest;
-        written = m.written;
+        written = cons_option m.first m.later;
       };
       left = m.fuse.left;
       faults = m.fuse.faults;
     } };
 
     ghost invariant = { λ m.
-        (m.least ≤ length m.content.items) × (length m.content.items ≤ m.greatest) };
+        (m.least ≤ length m.content.items) × ((length m.content.items ≤ m.greatest)
+        × (m.first ≡ None → m.later ≡ [])) };
 }
 
 impl MemoryDisk {
@@ -129,7 +154,8 @@ impl MemoryDisk {
             content,
             least: 1,
             greatest: 1,
-            written: List::new(alloc),
+            first: None,
+            later: List::new(alloc),
             fuse: Fuse {
                 left: None,
                 faults: 0,
@@ -169,18 +195,18 @@ impl MemoryDisk {
             mut content,
             least: _,
             greatest: _,
-            mut written,
+            first,
+            mut later,
             fuse,
         } = self;
-        for span in written.as_slice() {
-            blank(&mut content, *span, fill);
-        }
-        written.truncate(0);
+        blank_all(&mut content, first, later.as_slice(), fill);
+        later.truncate(0);
         MemoryDisk {
             least: content.len(),
             greatest: content.len(),
             content,
-            written,
+            first: None,
+            later,
             fuse: Fuse {
                 left: None,
                 faults: fuse.faults,
@@ -197,7 +223,8 @@ impl MemoryDisk {
             content: Vec::new(alloc),
             least: 0,
             greatest: 0,
-            written: List::new(alloc),
+            first: None,
+            later: List::new(alloc),
             fuse: Fuse {
                 left: None,
                 faults: 0,
@@ -251,14 +278,20 @@ impl Disk for MemoryDisk {
         ensures time { Passes memory.disk_of memory.left_at_ends self.old self.new }
     {
         self.fuse.enter()?;
-        let before = self.written.len();
-        self.written.push(Span {
+        let span = Span {
             at,
             len: piece.len() as u64,
-        })?;
+        };
+        let before = self.later.len();
+        if self.first.is_some() {
+            self.later.push(span)?;
+        }
         if overwrite(&mut self.content, at as usize, piece).is_err() {
-            self.written.truncate(before);
+            self.later.truncate(before);
             return Err(DiskError::NoMemory);
+        }
+        if self.first.is_none() {
+            self.first = Some(span);
         }
         self.greatest = self.greatest.max(at as usize + piece.len());
         self.fuse.pass();
@@ -287,7 +320,8 @@ impl Disk for MemoryDisk {
         ensures time { Passes memory.disk_of memory.left_at_ends self.old self.new }
     {
         self.fuse.enter()?;
-        self.written.truncate(0);
+        self.first = None;
+        self.later.truncate(0);
         self.least = self.content.len();
         self.greatest = self.content.len();
         self.fuse.pass();

@@ -7,6 +7,7 @@ ghost use Rattle.tp_record.specs.mirrors.Readings as readings;
 
 use crate::bytes::{Halt, Reader};
 use crate::spelled::Spelled;
+use crate::written::Writer;
 use tp_types::{
     AdminId, Cause, Denied, Died, List, Met, Newer, NoMemory, OutOfRange, ServerId, TxnId, Version,
 };
@@ -18,7 +19,7 @@ impl Spelled for Denied {
 
     ghost reading = { readings.denied_at };
 
-    fn write_to(&self, out: &mut Vec<u8>) -> Result<(), NoMemory> {
+    fn write_to(&self, out: &mut Writer) -> Result<(), NoMemory> {
         self.query.write_to(out)?;
         self.server.0.write_to(out)?;
         self.admin.0.write_to(out)?;
@@ -45,7 +46,7 @@ impl Spelled for OutOfRange {
 
     ghost reading = { readings.out_of_range_at };
 
-    fn write_to(&self, out: &mut Vec<u8>) -> Result<(), NoMemory> {
+    fn write_to(&self, out: &mut Writer) -> Result<(), NoMemory> {
         self.query.write_to(out)?;
         self.server.0.write_to(out)?;
         self.value.write_to(out)
@@ -68,7 +69,7 @@ impl Spelled for Died {
 
     ghost reading = { readings.died_at };
 
-    fn write_to(&self, out: &mut Vec<u8>) -> Result<(), NoMemory> {
+    fn write_to(&self, out: &mut Writer) -> Result<(), NoMemory> {
         self.query.write_to(out)?;
         self.server.0.write_to(out)?;
         self.other.0.write_to(out)?;
@@ -93,7 +94,7 @@ impl Spelled for Newer {
 
     ghost reading = { readings.newer_at };
 
-    fn write_to(&self, out: &mut Vec<u8>) -> Result<(), NoMemory> {
+    fn write_to(&self, out: &mut Writer) -> Result<(), NoMemory> {
         self.admin.0.write_to(out)?;
         self.used.write_to(out)?;
         self.found.write_to(out)
@@ -116,7 +117,7 @@ impl Spelled for Cause {
 
     ghost reading = { readings.cause_at };
 
-    fn write_to(&self, out: &mut Vec<u8>) -> Result<(), NoMemory> {
+    fn write_to(&self, out: &mut Writer) -> Result<(), NoMemory> {
         match self {
             Cause::Denied(held) => {
                 out.push(1)?;
@@ -142,10 +143,7 @@ impl Spelled for Cause {
                 out.push(6)?;
                 server.0.write_to(out)
             }
-            Cause::Halted => {
-                out.push(7)?;
-                Ok(())
-            }
+            Cause::Halted => out.push(7),
         }
     }
 

@@ -7,6 +7,7 @@ ghost use Rattle.tp_record.specs.mirrors.Readings as readings;
 
 use crate::bytes::{Halt, Reader};
 use crate::spelled::Spelled;
+use crate::written::Writer;
 use tp_types::{
     AdminId, Cause, CommitRecord, Decided, Decision, Deed, Instance, List, No, NoMemory, Outcome,
     Prepared, Record, Settled, Told, TxnId, Verdict, Version, both,
@@ -19,7 +20,7 @@ impl Spelled for CommitRecord {
 
     ghost reading = { readings.commit_at };
 
-    fn write_to(&self, out: &mut Vec<u8>) -> Result<(), NoMemory> {
+    fn write_to(&self, out: &mut Writer) -> Result<(), NoMemory> {
         self.rounds.write_to(out)?;
         self.instances.write_to(out)?;
         self.deeds.write_to(out)
@@ -42,7 +43,7 @@ impl Spelled for Decision {
 
     ghost reading = { readings.decision_at };
 
-    fn write_to(&self, out: &mut Vec<u8>) -> Result<(), NoMemory> {
+    fn write_to(&self, out: &mut Writer) -> Result<(), NoMemory> {
         match self {
             Decision::Commit(held) => {
                 out.push(0)?;
@@ -72,7 +73,7 @@ impl Spelled for Told {
 
     ghost reading = { readings.told_at };
 
-    fn write_to(&self, out: &mut Vec<u8>) -> Result<(), NoMemory> {
+    fn write_to(&self, out: &mut Writer) -> Result<(), NoMemory> {
         self.admin.0.write_to(out)?;
         self.version.write_to(out)
     }
@@ -93,7 +94,7 @@ impl Spelled for Prepared {
 
     ghost reading = { readings.prepared_at };
 
-    fn write_to(&self, out: &mut Vec<u8>) -> Result<(), NoMemory> {
+    fn write_to(&self, out: &mut Writer) -> Result<(), NoMemory> {
         self.txn.0.write_to(out)?;
         self.age.write_to(out)?;
         self.epoch.write_to(out)?;
@@ -131,7 +132,7 @@ impl Spelled for Settled {
 
     ghost reading = { readings.settled_at };
 
-    fn write_to(&self, out: &mut Vec<u8>) -> Result<(), NoMemory> {
+    fn write_to(&self, out: &mut Writer) -> Result<(), NoMemory> {
         self.txn.0.write_to(out)?;
         self.outcome.write_to(out)?;
         self.why.write_to(out)
@@ -154,7 +155,7 @@ impl Spelled for Decided {
 
     ghost reading = { readings.decided_at };
 
-    fn write_to(&self, out: &mut Vec<u8>) -> Result<(), NoMemory> {
+    fn write_to(&self, out: &mut Writer) -> Result<(), NoMemory> {
         self.txn.0.write_to(out)?;
         self.decision.write_to(out)
     }
@@ -176,12 +177,9 @@ impl Spelled for Record {
 
     ghost reading = { readings.content_at };
 
-    fn write_to(&self, out: &mut Vec<u8>) -> Result<(), NoMemory> {
+    fn write_to(&self, out: &mut Writer) -> Result<(), NoMemory> {
         match self {
-            Record::Boot => {
-                out.push(1)?;
-                Ok(())
-            }
+            Record::Boot => out.push(1),
             Record::Told(held) => {
                 out.push(2)?;
                 held.write_to(out)

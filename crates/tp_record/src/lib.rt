@@ -25,15 +25,13 @@ mod causes;
 mod kinds;
 mod parts;
 mod spelled;
+mod written;
 
 use bytes::{Halt, Reader};
 use spelled::{Spelled, write_count};
 use std::alloc::Global;
 use tp_types::{List, NoMemory, Record, Text};
-
-/// Room for a usual record and the one byte that a log puts behind it, in bytes, so that it does not grow as it is
-/// written.
-const USUAL: usize = 256;
+use written::Writer;
 
 /// Puts a count into the first four bytes.
 #[tactic(auto, unfolding(crate::specs::Spelling::short))]
@@ -55,10 +53,11 @@ pub fn encode(alloc: Global, r: &Record) -> Result<Text, NoMemory>
     ensures spelled { IfOk result (λ text. text.0 ≡ spell.spelling r.now) }
     ensures range { OnOk result (IsInRange r.now) }
 {
-    let mut body = Vec::with_capacity(alloc, USUAL)?;
+    let mut out = Writer::new(alloc)?;
     // the length is known once the content is written behind it
-    write_count(&mut body, 0)?;
-    r.write_to(&mut body)?;
+    write_count(&mut out, 0)?;
+    r.write_to(&mut out)?;
+    let mut body = out.into_vec();
     let count = body.len() - 4;
     set_count(&mut body, count);
     Ok(Text(List::from_vec(body)))

@@ -7,6 +7,7 @@ ghost use Rattle.tp_record.specs.mirrors.Readings as readings;
 
 use crate::bytes::{Halt, Reader};
 use crate::spelled::Spelled;
+use crate::written::Writer;
 use tp_types::{
     Action, AdminId, CredId, Deed, Instance, ItemId, List, Met, No, NoMemory, Outcome, ServerId,
     Verdict, Version,
@@ -19,12 +20,11 @@ impl Spelled for Action {
 
     ghost reading = { readings.action_at };
 
-    fn write_to(&self, out: &mut Vec<u8>) -> Result<(), NoMemory> {
+    fn write_to(&self, out: &mut Writer) -> Result<(), NoMemory> {
         out.push(match self {
             Action::Read => 0,
             Action::Write => 1,
-        })?;
-        Ok(())
+        })
     }
 
     #[tactic(auto, unfolding(crate::specs::mirrors::Readings::action_at))]
@@ -44,12 +44,11 @@ impl Spelled for Outcome {
 
     ghost reading = { readings.outcome_at };
 
-    fn write_to(&self, out: &mut Vec<u8>) -> Result<(), NoMemory> {
+    fn write_to(&self, out: &mut Writer) -> Result<(), NoMemory> {
         out.push(match self {
             Outcome::Commit => 0,
             Outcome::Abort => 1,
-        })?;
-        Ok(())
+        })
     }
 
     #[tactic(auto, unfolding(crate::specs::mirrors::Readings::outcome_at))]
@@ -69,7 +68,7 @@ impl Spelled for CredId {
 
     ghost reading = { readings.credential_at };
 
-    fn write_to(&self, out: &mut Vec<u8>) -> Result<(), NoMemory> {
+    fn write_to(&self, out: &mut Writer) -> Result<(), NoMemory> {
         self.0.write_to(out)
     }
 
@@ -86,7 +85,7 @@ impl Spelled for Version {
 
     ghost reading = { readings.version_at };
 
-    fn write_to(&self, out: &mut Vec<u8>) -> Result<(), NoMemory> {
+    fn write_to(&self, out: &mut Writer) -> Result<(), NoMemory> {
         self.0.write_to(out)
     }
 
@@ -103,7 +102,7 @@ impl Spelled for Deed {
 
     ghost reading = { readings.deed_at };
 
-    fn write_to(&self, out: &mut Vec<u8>) -> Result<(), NoMemory> {
+    fn write_to(&self, out: &mut Writer) -> Result<(), NoMemory> {
         self.query.write_to(out)?;
         self.item.0.write_to(out)?;
         self.action.write_to(out)?;
@@ -128,7 +127,7 @@ impl Spelled for Verdict {
 
     ghost reading = { readings.verdict_at };
 
-    fn write_to(&self, out: &mut Vec<u8>) -> Result<(), NoMemory> {
+    fn write_to(&self, out: &mut Writer) -> Result<(), NoMemory> {
         self.query.write_to(out)?;
         self.server.0.write_to(out)?;
         self.admin.0.write_to(out)?;
@@ -159,7 +158,7 @@ impl Spelled for Instance {
 
     ghost reading = { readings.instance_at };
 
-    fn write_to(&self, out: &mut Vec<u8>) -> Result<(), NoMemory> {
+    fn write_to(&self, out: &mut Writer) -> Result<(), NoMemory> {
         self.reading.write_to(out)?;
         self.proofs.write_to(out)
     }
@@ -180,17 +179,14 @@ impl Spelled for No {
 
     ghost reading = { readings.no_at };
 
-    fn write_to(&self, out: &mut Vec<u8>) -> Result<(), NoMemory> {
+    fn write_to(&self, out: &mut Writer) -> Result<(), NoMemory> {
         match self {
             No::Range { query, value } => {
                 out.push(0)?;
                 query.write_to(out)?;
                 value.write_to(out)
             }
-            No::Restarted => {
-                out.push(1)?;
-                Ok(())
-            }
+            No::Restarted => out.push(1),
         }
     }
 
@@ -214,7 +210,7 @@ impl Spelled for Met {
 
     ghost reading = { readings.met_at };
 
-    fn write_to(&self, out: &mut Vec<u8>) -> Result<(), NoMemory> {
+    fn write_to(&self, out: &mut Writer) -> Result<(), NoMemory> {
         self.admin.0.write_to(out)?;
         self.used.write_to(out)?;
         self.newest.write_to(out)?;

@@ -7,6 +7,7 @@ ghost use Rattle.tp_record.specs.mirrors.Readings as readings;
 ghost use Rattle.tp_record.specs.mirrors.Readings.{Reader as Reads};
 
 use crate::bytes::{Halt, Reader};
+use crate::written::Writer;
 use byteorder::{BigEndian, ByteOrder};
 use tp_types::{List, NoMemory};
 
@@ -21,8 +22,8 @@ pub(crate) trait Spelled: Drop {
     ghost reading: { Reads Self };
 
     /// Writes the spelling at the end.
-    fn write_to(&self, out: &mut Vec<u8>) -> Result<(), NoMemory>
-        ensures spelled { OnOk result (out.new.items ≡ out.old.items ++ spelling self.now) }
+    fn write_to(&self, out: &mut Writer) -> Result<(), NoMemory>
+        ensures spelled { OnOk result (out.new ≡ out.old ++ spelling self.now) }
         ensures range { OnOk result (in_range self.now) };
 
     /// Reads the value at the front.
@@ -38,10 +39,9 @@ impl Spelled for u32 {
     ghost reading = { readings.number_at 4 };
 
     #[tactic(auto, unfolding(crate::specs::Spelling::short))]
-    fn write_to(&self, out: &mut Vec<u8>) -> Result<(), NoMemory> {
+    fn write_to(&self, out: &mut Writer) -> Result<(), NoMemory> {
         let number = *self;
-        out.extend_from_slice(&number.to_be_bytes())?;
-        Ok(())
+        out.put(&number.to_be_bytes())
     }
 
     fn read_from(reader: &mut Reader<'_>) -> Result<u32, Halt> {
@@ -57,10 +57,9 @@ impl Spelled for u64 {
     ghost reading = { readings.number_at 8 };
 
     #[tactic(auto, unfolding(crate::specs::Spelling::long))]
-    fn write_to(&self, out: &mut Vec<u8>) -> Result<(), NoMemory> {
+    fn write_to(&self, out: &mut Writer) -> Result<(), NoMemory> {
         let number = *self;
-        out.extend_from_slice(&number.to_be_bytes())?;
-        Ok(())
+        out.put(&number.to_be_bytes())
     }
 
     fn read_from(reader: &mut Reader<'_>) -> Result<u64, Halt> {
@@ -76,10 +75,9 @@ impl Spelled for i128 {
     ghost reading = { readings.value_at };
 
     #[tactic(auto, unfolding(crate::specs::Spelling::value))]
-    fn write_to(&self, out: &mut Vec<u8>) -> Result<(), NoMemory> {
+    fn write_to(&self, out: &mut Writer) -> Result<(), NoMemory> {
         let number = *self;
-        out.extend_from_slice(&number.to_be_bytes())?;
-        Ok(())
+        out.put(&number.to_be_bytes())
     }
 
     #[tactic(auto, unfolding(crate::specs::mirrors::Readings::value_at))]
@@ -95,12 +93,9 @@ impl<T: Spelled> Spelled for Option<T> {
 
     ghost reading = { readings.option_at T.reading };
 
-    fn write_to(&self, out: &mut Vec<u8>) -> Result<(), NoMemory> {
+    fn write_to(&self, out: &mut Writer) -> Result<(), NoMemory> {
         match self {
-            None => {
-                out.push(0)?;
-                Ok(())
-            }
+            None => out.push(0),
             Some(value) => {
                 out.push(1)?;
                 value.write_to(out)
@@ -119,12 +114,11 @@ impl<T: Spelled> Spelled for Option<T> {
 
 /// A count has the lowest four bytes of the length, which are all of it but in a list of 2^32 members or more.
 #[tactic(auto, unfolding(crate::specs::Spelling::short))]
-pub(crate) fn write_count(out: &mut Vec<u8>, count: usize) -> Result<(), NoMemory>
-    ensures { OnOk result (out.new.items ≡ out.old.items ++ spell.short count) }
+pub(crate) fn write_count(out: &mut Writer, count: usize) -> Result<(), NoMemory>
+    ensures { OnOk result (out.new ≡ out.old ++ spell.short count) }
 {
     let bytes = (count as u64).to_be_bytes();
-    out.extend_from_slice(&bytes[4..])?;
-    Ok(())
+    out.put(&bytes[4..])
 }
 
 impl<T: Spelled> Spelled for List<T> {
@@ -134,7 +128,7 @@ impl<T: Spelled> Spelled for List<T> {
 
     ghost reading = { readings.list_at T.reading };
 
-    fn write_to(&self, out: &mut Vec<u8>) -> Result<(), NoMemory> {
+    fn write_to(&self, out: &mut Writer) -> Result<(), NoMemory> {
         write_count(out, self.len())?;
         for member in self.as_slice() {
             member.write_to(out)?;

@@ -1,5 +1,6 @@
-use Rattle.std.proofs.Common.{◌≡◌, List, ℕ, sym, ap, subst, ◌∙◌}
-use Rattle.std.proofs.lemmas.List.{drop_all}
+use Rattle.std.proofs.Common.{◌≡◌, ◌++◌, List, ℕ, arith, drop, length, take, sym, subst}
+use Rattle.std.proofs.lemmas.Grind.{common_steps}
+use Rattle.std.specs.List.{cons_option}
 use Rattle.tp_device.specs.Disks.{MayLeave}
 use Rattle.tp_device.specs.Memory.{Memory, with_blanks}
 use Rattle.tp_device.proofs.Images.{crash_image}
@@ -7,10 +8,8 @@ use Rattle.tp_device.proofs.memory.MemoryDisk.crashed.Goals as goal
 
 pub returns-clause-image : goal.returns-clause-image
 returns-clause-image c =
-    let spans = c.as_slice-span-items.result.now in
-    let content : List ℕ = c.loop-span.content.items in
     let old : List ℕ = c.self.inside.content.items in
-    let is : content ≡ with_blanks c.args.fill old c.self.inside.written =
-    sym (ap (with_blanks c.args.fill content) (drop_all c.loop-span.span-index spans c.loop-span-test.false)) ∙ c.loop-span.invariant ∙ ap (with_blanks c.args.fill old) c.as_slice-span-items.ensures in
+    let content : List ℕ = take c.self.inside.content.len (c.blank_all.new.content ++ drop (length c.blank_all.new.content) old) in
+    let is : content ≡ with_blanks c.args.fill old (cons_option c.self.inside.first c.self.inside.later) = grind (arith, common_steps) in
     subst (λ (m : Memory). MayLeave m.disk content) c.self.view_is
-    (subst (MayLeave _) (sym is) (crash_image c.args.fill _ c.self.invariant.0 c.self.invariant.1))
+    (subst (MayLeave _) (sym is) (crash_image c.args.fill _ c.self.invariant.0 c.self.invariant.1.0))

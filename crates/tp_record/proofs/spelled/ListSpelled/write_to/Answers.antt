@@ -7,7 +7,7 @@ pub loop-member-preserved : goal.loop-member-preserved
 loop-member-preserved g c =
     let xs = c.as_slice-member-items.result.now in
     record {
-      written = written_more g.T.Spelled.spelling xs c.loop-member.member-index c.member-item.result c.args.out.now.items (short (length xs)) c.loop-member.out.items c.write_to.new.out.items c.loop-member-test.true c.member-item.is c.loop-member.invariant.written c.in_ok-write_to.ensures.spelled;
+      written = written_more g.T.Spelled.spelling xs c.loop-member.member-index c.member-item.result c.args.out.now (short (length xs)) c.loop-member.out c.write_to.new.out c.loop-member-test.true c.member-item.is c.loop-member.invariant.written c.in_ok-write_to.ensures.spelled;
       range = range_more g.T.Spelled.in_range xs c.loop-member.member-index c.member-item.result c.loop-member-test.true c.member-item.is c.loop-member.invariant.range c.in_ok-write_to.ensures.range;
     }
 

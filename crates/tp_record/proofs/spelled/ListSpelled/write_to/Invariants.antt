@@ -7,6 +7,6 @@ use Rattle.tp_record.proofs.spelled.ListSpelled.write_to.Given as goal
 abbrev pub invariant-loop-member : goal.invariant-loop-member
 invariant-loop-member g l =
     record {
-      written : l.out.items ≡ l.fn.out.items ++ (short (length l.member-items) ++ flat_map g.T.Spelled.spelling (take l.member-index l.member-items));
+      written : l.out ≡ l.fn.out ++ (short (length l.member-items) ++ flat_map g.T.Spelled.spelling (take l.member-index l.member-items));
       range : All g.T.Spelled.in_range (take l.member-index l.member-items);
     }
