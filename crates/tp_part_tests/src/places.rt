@@ -1,8 +1,8 @@
 //! Tables that keep their first places alone in memory.
 use crate::made::list;
 use std::process::Abort;
-use tp_places::{Places, none_in_bulk};
-use tp_types::{List, TryClone};
+use tp_places::{Overlay, Places};
+use tp_types::TryClone;
 
 /// Whether these stand at the first places, 0 for none.
 fn has(places: &Places<i128>, members: &[i128]) -> bool {
@@ -58,13 +58,38 @@ fn places_are_made_of_a_front(rt: HostRuntime) {
     drop(places);
 }
 
+/// Whether these stand at the first places, 0 for none.
+fn overlays(overlay: &Overlay<i128>, members: &[i128]) -> bool {
+    for (at, member) in members.iter().enumerate() {
+        if overlay.get(at).unwrap_or(0) != *member {
+            return false;
+        }
+    }
+    true
+}
+
+/// Five places, made from this one on, of which three are filled, and one twice.
+fn is_overlay_from(rt: &(impl Abort + AllocGlobal), first: usize) -> bool {
+    let mut overlay = Overlay::none(rt.alloc(), 5, first).expect(rt, "memory for an overlay");
+    let was_empty = overlays(&overlay, &[0, 0, 0, 0, 0]);
+    overlay.put(3, 7);
+    overlay.put(5, 9);
+    let has_one = overlays(&overlay, &[0, 0, 0, 7, 0, 0]);
+    overlay.put(1, 8);
+    overlay.put(3, 6);
+    let copy = overlay
+        .try_clone(rt.alloc())
+        .expect(rt, "memory for a copy");
+    overlay.put(4, 5);
+    let is = overlays(&overlay, &[0, 8, 0, 6, 5, 0]) && overlays(&copy, &[0, 8, 0, 6, 0, 0]);
+    drop(copy);
+    drop(overlay);
+    was_empty && has_one && is
+}
+
 #[test]
-fn a_table_is_made_in_bulk(rt: HostRuntime) {
-    let made: List<Option<u32>> = none_in_bulk(rt.alloc(), 3).expect(&rt, "memory for a table");
-    let is_empty = match made.get(2) {
-        None => false,
-        Some(place) => place.is_none(),
-    };
-    assert!(rt; made.len() == 3 && is_empty);
-    drop(made);
+fn an_overlay_is_the_same_from_wherever_it_is_made(rt: HostRuntime) {
+    for first in 0..7 {
+        assert!(rt; is_overlay_from(&rt, first));
+    }
 }

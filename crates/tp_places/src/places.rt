@@ -2,6 +2,7 @@
 ghost use Rattle.std.specs.Prelude.{◌≡◌, ◌-◌, ◌++◌, Some, None, length, replicate, slice_get, slice_set, OnOk, OnErr};
 ghost use Rattle.std.specs.Option.{option_copied, option_flatten};
 ghost use Rattle.tp_places.specs.Padded.{padded};
+ghost use Rattle.tp_types.specs.Table.{is_unset};
 
 use std::alloc::Global;
 use std::marker::Model;
@@ -78,6 +79,16 @@ impl<T: Drop> Places<T> {
         match self.made.get_mut(at) {
             None => None,
             Some(place) => place.as_mut(),
+        }
+    }
+
+    /// Whether there is such a place and nothing stands there.
+    pub fn is_unset(&self, at: usize) -> bool
+        ensures { result ≡ is_unset (slice_get self.now at) }
+    {
+        match self.made.get(at) {
+            None => at < self.count,
+            Some(place) => place.is_none(),
         }
     }
 
