@@ -540,10 +540,7 @@ fn value_up(
     }
     let records = part.records(alloc)?;
     let kept = kept_of(alloc, scenario, server, &records)?;
-    match kept.values.get(at) {
-        None => Ok(opening),
-        Some(value) => Ok(*value),
-    }
+    Ok(kept.values.get(at).unwrap_or(opening))
 }
 
 #[tactic(auto, using(crate::proofs::basics::Opened::opened_servers_more))]

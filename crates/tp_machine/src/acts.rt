@@ -25,8 +25,8 @@ use std::alloc::Global;
 use tp_coord::Coordinator;
 use tp_offices::{CLOCK_END, Master};
 use tp_types::{
-    Actor, AdminId, CredId, Cut, List, Mail, NoMemory, Record, Scenario, ServerId, Step, TryClone,
-    TxnId, What, both,
+    Actor, AdminId, CredId, Cut, List, Mail, NoMemory, Record, Scenario, ServerId, Step, TxnId,
+    What, both,
 };
 
 /// Whether a transaction was submitted.
@@ -434,7 +434,7 @@ fn boot_server(
         return boots_nobody(history, alloc, actor);
     };
     let own = both(
-        opening.try_clone(alloc),
+        opening.share(),
         Locks::opened(alloc, scenario.items.len()),
     );
     let (own, locks) = own?;

@@ -31,6 +31,7 @@ use tp_lock::LockTable;
 use tp_log::Log;
 use tp_recover::{Kept, kept_apart};
 use tp_server::Server;
+use tp_store::{OpeningValues, Values, first_item};
 use tp_types::{
     Actor, Cut, Letter, List, Mail, NoMemory, Place, Reaction, Record, Scenario, ServerId,
     TryClone, TxnId, What,
@@ -110,20 +111,21 @@ impl<S: Drop> Part<S> {
     }
 
     /// All that is kept of the records that the disk gives, by which a server boots. Of these it reads those alone that the
-    /// log gained since it was read last. It takes over the opening values. One more boot can be counted.
+    /// log gained since it was read last. It takes over a share of the opening values. One more boot can be counted.
     pub fn kept(
         &mut self,
         alloc: Global,
         scenario: &Scenario,
         server: ServerId,
-        values: List<i128>,
+        opening: OpeningValues,
     ) -> Result<Kept, NoMemory>
-        requires values { values ≡ opening_store scenario.now }
+        requires values { opening ≡ opening_store scenario.now }
         ensures kept { IfOk result (λ made. made ≡ kept scenario.now server self.old.log) }
         ensures epoch { IfOk result (λ made. made.epoch + 1 < 2 ^ 64) }
         ensures same { self.new ≡ self.old }
     {
         self.past.read_on(alloc, &mut self.log)?;
+        let values = Values::over(alloc, opening, first_item(scenario, server))?;
         kept_apart(
             alloc,
             scenario,

@@ -3,7 +3,7 @@ use crate::made::list;
 use crate::small_scenario::small;
 use std::process::Abort;
 use tp_recover::{Held, Kept, add_apart, by_age, decision_of, held, kept_apart, kept_of};
-use tp_store::opening_values;
+use tp_store::{OpeningValues, Values};
 use tp_types::{
     Action, Cause, CommitRecord, Decided, Decision, Deed, ItemId, List, Outcome, Prepared, Record,
     ServerId, Settled, TryClone, TxnId, Version,
@@ -47,8 +47,18 @@ fn recovered(rt: &(impl Abort + AllocGlobal), records: List<Record>) -> Held {
     found.expect(rt, "memory for what is held")
 }
 
+/// Whether just the items of these places have values, and these.
+fn are_values(found: &Values, values: &[i128]) -> bool {
+    for (at, value) in values.iter().enumerate() {
+        if found.get(at) != Some(*value) {
+            return false;
+        }
+    }
+    found.get(values.len()).is_none()
+}
+
 fn has_values(held: &Held, values: &[i128]) -> bool {
-    held.values.as_slice() == values
+    are_values(&held.values, values)
 }
 
 fn knows(held: &Held, versions: &[Version]) -> bool {
@@ -141,7 +151,7 @@ fn has_prepared(kept: &Kept, txn: usize) -> bool {
 
 /// Whether this transaction is settled, by its number.
 fn has_settled(kept: &Kept, txn: usize) -> bool {
-    matches!(kept.settled.get(txn), Some(Some(_)))
+    kept.settled.get(txn).is_some()
 }
 
 #[test]
@@ -152,7 +162,7 @@ fn all_is_kept_by_transaction(rt: HostRuntime) {
     assert!(rt; kept.epoch == 1 && kept.in_order.len() == 1);
     assert!(rt; has_settled(&kept, 0) && !has_prepared(&kept, 0));
     assert!(rt; has_prepared(&kept, 1) && !has_settled(&kept, 1));
-    assert!(rt; kept.values.as_slice() == [8, 0, MOST].as_slice());
+    assert!(rt; are_values(&kept.values, &[8, 0, MOST]));
     drop(kept);
 }
 
@@ -163,8 +173,9 @@ fn kept_beside_its_boots(rt: &(impl Abort + AllocGlobal)) -> Kept {
     let records = list(rt, [Record::Boot, vote(rt, 0, 4, 0, 8), Record::Boot]);
     let boots = add_apart(&mut others, records).expect(rt, "memory for a record");
     assert!(*rt; boots == 2 && others.len() == 1);
-    let opening = opening_values(rt.alloc(), scenario.items.as_slice());
-    let values = opening.expect(rt, "memory for the values");
+    let opening = OpeningValues::of(rt.alloc(), scenario.items.as_slice());
+    let opening = opening.expect(rt, "memory for the opening values");
+    let values = Values::over(rt.alloc(), opening, 0).expect(rt, "memory for the values");
     let found = kept_apart(rt.alloc(), &scenario, ServerId(0), values, &others, 2);
     drop(scenario);
     drop(others);

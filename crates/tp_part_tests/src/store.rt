@@ -1,8 +1,9 @@
 //! A store, call by call.
 use crate::made::{assert_case, list};
 use crate::small_scenario::small;
-use tp_store::{Ranges, Store};
-use tp_types::{AdminId, ItemId, ServerId, TxnId, Version};
+use std::process::Abort;
+use tp_store::{OpeningValues, Ranges, Store, Values};
+use tp_types::{AdminId, ItemId, Scenario, ServerId, TryClone, TxnId, Version};
 
 /// A call of a store, or what a call is to answer.
 enum Line {
@@ -139,10 +140,47 @@ fn answers_by_the_table(rt: HostRuntime) {
     drop(store);
 }
 
+/// Three items whose opening values are 3, 0 and the greatest, which are given 7, 1 and -2. The places of items are made from
+/// the second one on.
+fn left_by_a_log(rt: &(impl Abort + AllocGlobal), scenario: &Scenario) -> Values {
+    let opening = OpeningValues::of(rt.alloc(), scenario.items.as_slice());
+    let opening = opening.expect(rt, "memory for the opening values");
+    let mut values = Values::over(rt.alloc(), opening, 1).expect(rt, "memory for the values");
+    values.put(2, -2);
+    values.put(0, 7);
+    values.put(1, 1);
+    values
+}
+
+#[test]
+fn opening_values_are_shared(rt: HostRuntime) {
+    let scenario = small(&rt);
+    let opening = OpeningValues::of(rt.alloc(), scenario.items.as_slice());
+    let opening = opening.expect(&rt, "memory for the opening values");
+    drop(scenario);
+    let shared = opening.share().expect(&rt, "room for one store more");
+    let mut values = Values::over(rt.alloc(), shared, 1).expect(&rt, "memory for the values");
+    let other = Values::over(rt.alloc(), opening, 9).expect(&rt, "memory for other values");
+    values.put(2, 4);
+    values.put(3, 5);
+    assert!(rt; values.get(0) == Some(3) && values.get(1) == Some(0) && values.get(2) == Some(4));
+    assert!(rt; values.get(3) == None);
+    // the first place is made behind the others
+    values.put(0, 6);
+    let copy = values
+        .try_clone(rt.alloc())
+        .expect(&rt, "memory for a copy");
+    assert!(rt; copy.get(0) == Some(6) && copy.get(1) == Some(0) && copy.get(2) == Some(4));
+    assert!(rt; other.get(0) == Some(3) && other.get(2) == Some(GREATEST));
+    drop(values);
+    drop(other);
+    drop(copy);
+}
+
 #[test]
 fn begins_with_what_a_log_leaves(rt: HostRuntime) {
     let scenario = small(&rt);
-    let values = list(&rt, [7, 1, -2]);
+    let values = left_by_a_log(&rt, &scenario);
     let known = list(&rt, [Version(3), Version(1)]);
     let made = Store::restored(rt.alloc(), &scenario, values, known);
     drop(scenario);
@@ -159,7 +197,7 @@ fn ranges_are_shared(rt: HostRuntime) {
     let ranges = Ranges::of(rt.alloc(), scenario.items.as_slice()).expect(&rt, "memory for ranges");
     let shared = ranges.share().expect(&rt, "room for one store more");
     drop(ranges);
-    let values = list(&rt, [7, 1, -2]);
+    let values = left_by_a_log(&rt, &scenario);
     let known = list(&rt, [Version(3), Version(1)]);
     let mut store = Store::over(rt.alloc(), shared, scenario.txns.len(), values, known);
     let beyond = match scenario.items.get(0) {

@@ -5,6 +5,7 @@ ghost use Rattle.tp_recover.specs.Held as rule;
 use crate::ages::by_age;
 use crate::kept::Kept;
 use std::alloc::Global;
+use tp_store::Values;
 use tp_types::{List, NoMemory, Prepared, Settled, Version};
 
 /// What a server that comes up again has of its log.
@@ -16,7 +17,7 @@ pub struct Held {
     pub newest: List<Version>,
     /// The value of each item of the scenario, so that ids need no translation. Where the log names items of its
     /// server alone, the others have their opening values.
-    pub values: List<i128>,
+    pub values: Values,
     /// The last vote YES of each transaction that is not settled, by age and then by transaction.
     pub prepared: List<Prepared>,
     /// How each transaction was settled first, in the order of the log.

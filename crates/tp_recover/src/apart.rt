@@ -8,6 +8,7 @@ ghost use Rattle.tp_recover.specs.Log.{boots_in, without_boots};
 use crate::kept::Kept;
 use crate::recovery::kept_over;
 use std::alloc::Global;
+use tp_store::Values;
 use tp_types::{List, NoMemory, Record, Scenario, ServerId};
 
 /// Adds those of more records that are no boots to others, and counts the boots. Where memory is refused the others stay.
@@ -38,7 +39,7 @@ pub fn kept_apart(
     alloc: Global,
     scenario: &Scenario,
     server: ServerId,
-    values: List<i128>,
+    values: Values,
     others: &List<Record>,
     boots: u64,
 ) -> Result<Kept, NoMemory>

@@ -6,8 +6,8 @@ ghost use Rattle.tp_recover.specs.Kept as rule;
 use crate::values::end;
 use crate::versions::{tell, tell_all};
 use std::alloc::Global;
-use tp_places::{Places, none_in_bulk};
-use tp_store::known_at_first;
+use tp_places::Places;
+use tp_store::{Values, known_at_first};
 use tp_types::{
     List, NoMemory, Prepared, Record, Scenario, ServerId, Settled, TryClone, TxnId, Version, both,
 };
@@ -20,28 +20,20 @@ pub struct Kept {
     /// The newest version known of each administrator.
     pub newest: List<Version>,
     /// The value of each item of the scenario.
-    pub values: List<i128>,
+    pub values: Values,
     /// The last vote YES of each transaction that is not settled.
     pub prepared: Places<Prepared>,
     /// How each transaction was settled first.
-    pub settled: List<Option<Settled>>,
+    pub settled: Places<Settled>,
     /// These settlements in the order of the log.
     pub in_order: List<Settled>,
-}
-
-/// A copy of a table of settlements, or the want of memory for it.
-fn copied(alloc: Global, table: &[Option<Settled>]) -> Result<List<Option<Settled>>, NoMemory>
-    ensures { IfOk result (λ made. made ≡ table.now) }
-{
-    let made = Vec::from_slice(alloc, table)?;
-    Ok(List::from_vec(made))
 }
 
 impl TryClone for Kept {
     fn try_clone(&self, alloc: Global) -> Result<Self, NoMemory> {
         let numbers = both(self.newest.try_clone(alloc), self.values.try_clone(alloc));
         let prepared = self.prepared.try_clone(alloc);
-        let settled = copied(alloc, self.settled.as_slice());
+        let settled = self.settled.try_clone(alloc);
         let ends = both(settled, self.in_order.try_clone(alloc));
         let ((newest, values), (prepared, (settled, in_order))) = both(
             numbers,
@@ -58,13 +50,10 @@ impl TryClone for Kept {
     }
 }
 
-fn settled_of(settled: &List<Option<Settled>>, txn: TxnId) -> Option<Settled>
+fn settled_of(settled: &Places<Settled>, txn: TxnId) -> Option<Settled>
     ensures { result ≡ rule.of_txn settled.now txn }
 {
-    match settled.get(txn.0 as usize) {
-        None => None,
-        Some(place) => *place,
-    }
+    settled.get(txn.0 as usize).copied()
 }
 
 impl Kept {
@@ -73,20 +62,19 @@ impl Kept {
         alloc: Global,
         scenario: &Scenario,
         server: ServerId,
-        values: List<i128>,
+        values: Values,
     ) -> Result<Kept, NoMemory>
         requires values { values ≡ opening_store scenario.now }
         ensures { IfOk result (λ made. made ≡ rule.kept_first scenario.now server) }
     {
         let txns = scenario.txns.len();
-        let newest = known_at_first(alloc, scenario, server);
-        let (newest, settled) = both(newest, none_in_bulk(alloc, txns))?;
+        let newest = known_at_first(alloc, scenario, server)?;
         Ok(Kept {
             epoch: 1,
             newest,
             values,
             prepared: Places::none(alloc, txns),
-            settled,
+            settled: Places::none(alloc, txns),
             in_order: List::new(alloc),
         })
     }
@@ -109,7 +97,7 @@ impl Kept {
         let at = settled.txn.0 as usize;
         let vote = self.prepared.take(at);
         end(&mut self.values, settled.outcome, &vote);
-        self.settled.put(at, Some(settled));
+        self.settled.put(at, settled)?;
         self.in_order.push(settled)
     }
 

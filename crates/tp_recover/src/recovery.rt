@@ -9,7 +9,7 @@ ghost use Rattle.tp_recover.specs.Laws.{HeldSays, IsOfScenario};
 use crate::answer::{Held, answer};
 use crate::kept::Kept;
 use std::alloc::Global;
-use tp_store::opening_values;
+use tp_store::{OpeningValues, Values, first_item};
 use tp_types::{List, NoMemory, Record, Scenario, ServerId};
 
 /// All that is kept of the records of a server's log, over what the scenario says of the server at first, where the values of
@@ -18,7 +18,7 @@ pub fn kept_over(
     alloc: Global,
     scenario: &Scenario,
     server: ServerId,
-    values: List<i128>,
+    values: Values,
     records: &List<Record>,
 ) -> Result<Kept, NoMemory>
     requires values { values ≡ opening_store scenario.now }
@@ -43,7 +43,8 @@ pub fn kept_of(
     ensures kept { IfOk result (λ made. made ≡ kept scenario.now server records.now) }
     ensures epoch { IfOk result (λ made. made.epoch + 1 < 2 ^ 64) }
 {
-    let values = opening_values(alloc, scenario.items.as_slice())?;
+    let opening = OpeningValues::of(alloc, scenario.items.as_slice())?;
+    let values = Values::over(alloc, opening, first_item(scenario, server))?;
     kept_over(alloc, scenario, server, values, records)
 }
 

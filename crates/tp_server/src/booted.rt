@@ -13,7 +13,7 @@ use std::alloc::Global;
 use tp_lock::LockTable;
 use tp_places::Places;
 use tp_recover::{Kept, by_age};
-use tp_store::{Ranges, Store};
+use tp_store::{Ranges, Store, Values};
 use tp_types::{
     Action, Actor, Body, Deed, InquireRequest, Letter, List, NoMemory, Prepared, Reaction, Record,
     Scenario, ServerId, TryClone, TxnId, Version, both,
@@ -206,7 +206,7 @@ fn store_of(
     alloc: Global,
     scenario: &Scenario,
     ranges: Ranges,
-    values: List<i128>,
+    values: Values,
     newest: List<Version>,
     table: &Places<Prepared>,
 ) -> Result<Store, NoMemory>

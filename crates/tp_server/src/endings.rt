@@ -45,11 +45,11 @@ impl<L: LockTable + Drop> Server<L> {
             self.now reaction) }
     {
         match self.settled.get(request.txn.0 as usize) {
-            Some(Some(_)) => {
+            Some(_) => {
                 let letter = self.ack_letter(request.txn);
                 sent_alone(alloc, letter)
             }
-            _ => Ok(ignored(alloc)),
+            None => Ok(ignored(alloc)),
         }
     }
 
@@ -73,7 +73,7 @@ impl<L: LockTable + Drop> Server<L> {
     {
         let at = settled.txn.0 as usize;
         self.end(settled.txn, settled.outcome);
-        self.settled.put(at, Some(settled));
+        self.settled.put(at, settled)?;
         self.entries.clear(at);
         self.locks.release(settled.txn);
         let mut letters = List::of_one(alloc, letter)?;

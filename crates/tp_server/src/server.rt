@@ -12,11 +12,11 @@ use crate::entries::Entries;
 use std::alloc::Global;
 use std::marker::Model;
 use tp_lock::LockTable;
-use tp_places::none_in_bulk;
+use tp_places::Places;
 use tp_store::Store;
 use tp_types::{
     Actor, Body, Deed, DoneReply, Letter, List, Mail, NoMemory, Place, PushNotice, QueryRequest,
-    Reaction, Record, Scenario, ServerId, Settled, Told, TxnId, Verdict, both, ignored,
+    Reaction, Record, Scenario, ServerId, Settled, Told, TxnId, Verdict, ignored,
 };
 
 /// What a server voted YES on: the turn of the request, and its verdicts.
@@ -51,7 +51,7 @@ pub struct Server<L: LockTable> {
     /// The values of items, the writes of each transaction that is not settled, and the newest versions known.
     pub store: Store,
     /// How each transaction of the scenario was settled here, if it was.
-    pub settled: List<Option<Settled>>,
+    pub settled: Places<Settled>,
     /// The entry of each transaction of the scenario, if it has one.
     pub entries: Entries,
     /// The locks on the scenario's items.
@@ -84,13 +84,12 @@ impl<L: LockTable + Drop> Server<L> {
         requires { L.table locks ≡ lock.opening (length scenario.now.items) }
         ensures { IfOk result (λ made. made ≡ opened.opening scenario.now server) }
     {
-        let settled = none_in_bulk(alloc, scenario.txns.len());
-        let (store, settled) = both(Store::opened(alloc, scenario, server), settled)?;
+        let store = Store::opened(alloc, scenario, server)?;
         Ok(Server {
             server,
             epoch: 1,
             store,
-            settled,
+            settled: Places::none(alloc, scenario.txns.len()),
             entries: Entries::none(alloc, scenario.txns.len()),
             locks,
         })
@@ -121,16 +120,13 @@ impl<L: LockTable + Drop> Server<L> {
     pub fn value(&self, item: usize) -> Option<i128>
         ensures { result ≡ slice_get self.now.store.values item }
     {
-        self.store.values().get(item).copied()
+        self.store.values().get(item)
     }
 
     pub(crate) fn is_open(&self, txn: TxnId) -> bool
         ensures { result ≡ row.is_open self.now txn }
     {
-        match self.settled.get(txn.0 as usize) {
-            Some(None) => true,
-            _ => false,
-        }
+        self.settled.is_unset(txn.0 as usize)
     }
 
     pub(crate) fn entry_at(&self, txn: TxnId) -> Option<&Entry>

@@ -129,7 +129,7 @@ impl<L: LockTable + Drop> Server<L> {
             self.now reaction) }
     {
         match self.settled.get(request.txn.0 as usize) {
-            Some(Some(settled)) => match settled.why {
+            Some(settled) => match settled.why {
                 Some(why) => {
                     let letter = self.no_letter(request, why);
                     sent_alone(alloc, letter)

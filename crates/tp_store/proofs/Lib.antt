@@ -3,4 +3,5 @@ pub mod LawLemmas
 pub mod OutsideLemmas
 pub mod StoreLemmas
 pub mod TableLemmas
+pub mod ValueLemmas
 pub mod WriteLemmas

@@ -3,9 +3,12 @@
 //!
 //! What is promised, with the contract that carries it:
 //!
-//! - A store begins as the scenario says (`Store::opened`), and what it begins with is told (`opening_values`,
+//! - A store begins as the scenario says (`Store::opened`), and what it begins with is told (`OpeningValues::of`,
 //!   `known_at_first`); or it begins with what a log leaves (`Store::restored`; over a share of the ranges of items, which
 //!   stores do not copy, `Store::over`, `Ranges`)
+//! - Values are the opening ones with what was put over them, each by its item; putting takes no memory (`Values::over`,
+//!   `Values::get`, `Values::put`). Stores share the opening ones (`OpeningValues::share`), and on `first_item`, which has no
+//!   contract, hangs only how much memory a store touches
 //! - A transaction reads what it has written itself, or else the item's value (`Store::read`, `Store::value`)
 //! - Of two writes of one item the last by query is kept; where memory is refused the store stays
 //!   (`Store::write`: `ok`, `err`)
@@ -33,10 +36,12 @@ mod opening;
 mod ranges;
 mod store;
 mod tentative;
+mod values;
 mod writes;
 
 pub use laws::{first_outside_is_least, own_writes_are_read, writes_are_applied_in_order};
-pub use opening::{known_at_first, opening_values};
+pub use opening::{first_item, known_at_first};
 pub use ranges::Ranges;
 pub use store::Store;
+pub use values::{OpeningValues, Values};
 pub use writes::{Bounds, TentativeWrite};

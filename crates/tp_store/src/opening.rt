@@ -1,27 +1,9 @@
 //! The parts of a store before the first step.
-ghost use Rattle.std.specs.Prelude.{◌≡◌, [], map, replicate, IfOk};
-ghost use Rattle.tp_model.specs.SerialRun.{opening_value};
+ghost use Rattle.std.specs.Prelude.{◌≡◌, IfOk};
 ghost use Rattle.tp_store.specs.Rule as rule;
 
-use crate::writes::TentativeWrite;
-use std::alloc::{AllocError, Global};
-use tp_types::{Item, List, NoMemory, Scenario, ServerId, TryClone, Version};
-
-fn values_in(alloc: Global, items: &[Item]) -> Result<Vec<i128>, AllocError>
-    ensures { IfOk result (λ made. made.items ≡ map opening_value items.now) }
-{
-    items
-        .iter()
-        .map(|item| i128::from(item.value))
-        .collect(alloc)
-}
-
-/// The opening value of each item.
-pub fn opening_values(alloc: Global, items: &[Item]) -> Result<List<i128>, NoMemory>
-    ensures { IfOk result (λ made. made ≡ map opening_value items.now) }
-{
-    Ok(List::from_vec(values_in(alloc, items)?))
-}
+use std::alloc::Global;
+use tp_types::{List, NoMemory, Scenario, ServerId, TryClone, Version};
 
 /// The versions that the scenario says the server knows.
 pub fn known_at_first(
@@ -34,5 +16,17 @@ pub fn known_at_first(
     match scenario.servers.get(server.0 as usize) {
         None => Ok(List::new(alloc)),
         Some(declared) => declared.knows.try_clone(alloc),
+    }
+}
+
+/// The number of the first item that the scenario gives the server; 0 where it gives it none. A server's tables of items are
+/// made from it on.
+pub fn first_item(scenario: &Scenario, server: ServerId) -> usize {
+    let Some(declared) = scenario.servers.get(server.0 as usize) else {
+        return 0;
+    };
+    match declared.items.get(0) {
+        None => 0,
+        Some(item) => item.0 as usize,
     }
 }

@@ -2,9 +2,10 @@
 ghost use Rattle.std.specs.Prelude.{◌≡◌, IfOk, OnOk, OnErr};
 ghost use Rattle.tp_store.specs.Rule as rule;
 
-use crate::opening::{known_at_first, opening_values};
+use crate::opening::{first_item, known_at_first};
 use crate::ranges::Ranges;
 use crate::tentative::Tentative;
+use crate::values::{OpeningValues, Values};
 use crate::writes::{TentativeWrite, apply, first_outside, write_on};
 use std::alloc::Global;
 use std::marker::Model;
@@ -14,7 +15,7 @@ use tp_types::{AdminId, ItemId, List, NoMemory, Scenario, ServerId, TxnId, Versi
 #[derive(Drop)]
 pub struct Store {
     bounds: Ranges,
-    values: List<i128>,
+    values: Values,
     known: List<Version>,
     tentative: Tentative,
 }
@@ -37,7 +38,8 @@ impl Store {
     pub fn opened(alloc: Global, scenario: &Scenario, server: ServerId) -> Result<Store, NoMemory>
         ensures { IfOk result (λ made. made ≡ rule.opening scenario.now server) }
     {
-        let values = opening_values(alloc, scenario.items.as_slice());
+        let opening = OpeningValues::of(alloc, scenario.items.as_slice())?;
+        let values = Values::over(alloc, opening, first_item(scenario, server));
         let (values, known) = both(values, known_at_first(alloc, scenario, server))?;
         Store::restored(alloc, scenario, values, known)
     }
@@ -47,7 +49,7 @@ impl Store {
     pub fn restored(
         alloc: Global,
         scenario: &Scenario,
-        values: List<i128>,
+        values: Values,
         known: List<Version>,
     ) -> Result<Store, NoMemory>
         ensures { IfOk result (λ made. made ≡ rule.restored scenario.now values known) }
@@ -62,7 +64,7 @@ impl Store {
         alloc: Global,
         ranges: Ranges,
         txns: usize,
-        values: List<i128>,
+        values: Values,
         known: List<Version>,
     ) -> Store
         ensures { result ≡ rule.over ranges txns values known }
@@ -77,10 +79,10 @@ impl Store {
 
     /// The value of each item of the scenario; only the server's own are read or written.
     /// Ids then need no translation.
-    pub fn values(&self) -> &[i128]
+    pub fn values(&self) -> &Values
         ensures { result.now ≡ self.now.values }
     {
-        self.values.as_slice()
+        &self.values
     }
 
     /// The newest version known of each administrator.
@@ -95,10 +97,7 @@ impl Store {
     pub fn value(&self, item: ItemId) -> i128
         ensures { result ≡ rule.value_in self.now item }
     {
-        match self.values.get(item.0 as usize) {
-            None => 0,
-            Some(value) => *value,
-        }
+        self.values.get(item.0 as usize).unwrap_or(0)
     }
 
     fn written(&self, txn: TxnId, item: ItemId) -> Option<TentativeWrite>

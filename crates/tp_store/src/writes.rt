@@ -5,6 +5,7 @@ ghost use Rattle.tp_model.specs.Limits.{is_between};
 ghost use Rattle.tp_store.specs.Writes as rule;
 ghost use Rattle.tp_store.specs.mirrors.Places as mirror;
 
+use crate::values::Values;
 use tp_types::{ItemId, List, NoMemory};
 
 /// The range of an item, both ends included.
@@ -108,7 +109,7 @@ pub fn first_outside(bounds: &[Bounds], writes: &[TentativeWrite]) -> Option<Ten
 }
 
 /// Gives each item that is written its value.
-pub fn apply(values: &mut List<i128>, writes: &[TentativeWrite])
+pub fn apply(values: &mut Values, writes: &[TentativeWrite])
     ensures { values.new ≡ rule.values_after values.old writes.now }
 {
     for write in writes {

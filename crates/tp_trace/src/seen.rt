@@ -15,6 +15,7 @@ use tp_machine::Locks;
 use tp_recover::kept_of;
 use tp_report::piece::{put, put_item, put_server, put_txn};
 use tp_server::Server;
+use tp_store::Values;
 use tp_types::{
     Action, ItemId, List, NoMemory, Place, Record, Scenario, ServerId, TryClone, Version,
 };
@@ -91,7 +92,7 @@ fn locks_of(
 }
 
 /// The values of items, of those of all items of the scenario.
-fn values_of(alloc: Global, items: &[ItemId], values: &[i128]) -> Result<List<i128>, NoMemory>
+fn values_of(alloc: Global, items: &[ItemId], values: &Values) -> Result<List<i128>, NoMemory>
     ensures { IfOk result (λ made. made ≡ map (seen.value_in values.now) items.now) }
 {
     let mut made = List::from_vec(Vec::with_capacity(alloc, items.len())?);
@@ -101,13 +102,10 @@ fn values_of(alloc: Global, items: &[ItemId], values: &[i128]) -> Result<List<i1
     Ok(made)
 }
 
-fn value_in(values: &[i128], item: ItemId) -> i128
+fn value_in(values: &Values, item: ItemId) -> i128
     ensures { result ≡ seen.value_in values.now item }
 {
-    match values.get(item.0 as usize) {
-        None => 0,
-        Some(value) => *value,
-    }
+    values.get(item.0 as usize).unwrap_or(0)
 }
 
 // ---- locks
@@ -591,5 +589,5 @@ fn values_left(
         made ≡ seen.values_left scenario.now at (seen.items_of scenario.now at) records.now) }
 {
     let kept = kept_of(alloc, scenario, at, records)?;
-    values_of(alloc, items_of(scenario, at), kept.values.as_slice())
+    values_of(alloc, items_of(scenario, at), &kept.values)
 }

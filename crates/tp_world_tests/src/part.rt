@@ -5,7 +5,7 @@ use std::process::Abort;
 use tp_machine::Part;
 use tp_recover::{Kept, kept_of};
 use tp_scenario::read;
-use tp_store::opening_values;
+use tp_store::OpeningValues;
 use tp_types::{AdminId, Cut, Record, Scenario, ServerId, Told, Version};
 
 /// An actor that has forced one record. What its state is makes no difference here.
@@ -131,9 +131,9 @@ fn known_twice(
     scenario: &Scenario,
     part: &mut Part<u64>,
 ) -> (Known, Known) {
-    let values = opening_values(rt.alloc(), scenario.items.as_slice());
-    let values = values.expect(rt, "memory for opening values");
-    let on = part.kept(rt.alloc(), scenario, ServerId(0), values);
+    let opening = OpeningValues::of(rt.alloc(), scenario.items.as_slice());
+    let opening = opening.expect(rt, "memory for the opening values");
+    let on = part.kept(rt.alloc(), scenario, ServerId(0), opening);
     let on = known_of(on.expect(rt, "memory for what is kept"));
     let records = part.records(rt.alloc()).expect(rt, "memory for records");
     let whole = kept_of(rt.alloc(), scenario, ServerId(0), &records);
