@@ -8,6 +8,9 @@ use tp_types::{Action, ItemId, NoMemory, TxnId};
 /// The items of a table.
 const ITEMS: usize = 3;
 
+/// The item from which on a table of chains makes its ends: one in the middle.
+const FIRST: usize = 1;
+
 /// The most grants that are taken behind a call.
 const GRANTS: usize = 100;
 
@@ -100,7 +103,7 @@ fn fault_in<'a, L: LockTable + Drop>(
 /// The first call of a line that a new table, of either kind, does not answer as the call wants.
 pub fn fault<'a>(alloc: Global, line: &'a str) -> Result<Option<&'a str>, NoMemory> {
     match fault_in(alloc, PlainLocks::opened(alloc, ITEMS)?, line)? {
-        None => fault_in(alloc, ChainLocks::opened(alloc, ITEMS)?, line),
+        None => fault_in(alloc, ChainLocks::opened(alloc, ITEMS, FIRST)?, line),
         Some(step) => Ok(Some(step)),
     }
 }

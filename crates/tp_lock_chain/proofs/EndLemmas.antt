@@ -1,44 +1,57 @@
--- Ends of which only the first were made.
-use Rattle.std.proofs.Common.{◌≡◌, ◌<◌, ◌≤◌, ◌+◌, ◌-◌, ◌++◌, ℕ, zero, suc, List, [], ◌∷◌, length, get_or, slice_set, ap, ap₂, refl, sym, ◌∙◌, arith, append_assoc}
-use Rattle.std.proofs.lemmas.List.{get_or_append_left, length-append, length-set, set_past}
-use Rattle.std.proofs.lemmas.List.FromFn.{get_or-map-range_with_len, length-map-range_with_len, map-range_with_len_more}
+-- Ends of which only some were written.
+use Rattle.std.proofs.Common.{◌≡◌, ◌<◌, ◌≤◌, ◌+◌, ◌++◌, ℕ, zero, suc, List, [], ◌∷◌, length, replicate, get_or, slice_get, slice_set, Option, None, Some, ap, refl, sym, ◌∙◌, arith}
+use Rattle.std.specs.Option.{option_flatten}
+use Rattle.std.proofs.lemmas.List.{get_or_append_left, length-append, set_past}
+use Rattle.std.proofs.lemmas.List.FromFn.{map-range_with_len_more}
 use Rattle.tp_lock_chain.specs.declared.links.Pair.{Pair}
-use Rattle.tp_lock_chain.specs.mirrors.Ends.{ends, lone, lone_from, padded, whole}
+use Rattle.tp_lock_chain.specs.mirrors.Ends.{end_or_lone, ends, filled, lone, lone_from}
 use Rattle.tp_lock_chain.specs.mirrors.Links.{nowhere}
 
 -- ---- how many they are
 
-long : (made : List Pair) (count : ℕ) → length made ≤ count → length (padded made count) ≡ count
-long made count few =
-    let both = length-append made (lone_from (length made) (count - length made)) in
-    let rest = length-map-range_with_len lone (length made) (count - length made) in
-    omega (arith, both, rest, few)
+long : (start : ℕ) (places : List (Option Pair)) → length (filled start places) ≡ length places
+long start [] = refl
+long start (place ∷ places) = ap suc (long (start + 1) places)
 
-long_whole : (made : List Pair) (count : ℕ) (last : Pair) → length made ≤ count → length (whole made count last) ≡ count + 1
-long_whole made count last few =
-    let both = length-append (padded made count) (last ∷ []) in
-    omega (arith, both, long made count few)
+long_whole : (places : List (Option Pair)) (last : Pair) → length (filled 0 places ++ last ∷ []) ≡ length places + 1
+long_whole places last =
+    let both = length-append (filled 0 places) (last ∷ []) in
+    omega (arith, both, long 0 places)
 
--- ---- what is made
+-- ---- none is written
 
-pub none_made : (count : ℕ) → whole [] count (lone count) ≡ ends (count + 1)
-none_made count =
-    let all : count - 0 ≡ count = omega arith in
-    ap (λ n. lone_from 0 n ++ lone count ∷ []) all ∙ sym (map-range_with_len_more lone 0 count count (omega arith))
+none_filled : (start count : ℕ) → filled start (replicate count None) ≡ lone_from start count
+none_filled start zero = refl
+none_filled start (suc count) = ap (λ (pairs : List Pair). lone start ∷ pairs) (none_filled (start + 1) count)
 
--- one end more that is made
-pub made_more : (made : List Pair) (count : ℕ) → length made < count → padded (made ++ lone (length made) ∷ []) count ≡ padded made count
-made_more made count within =
-    let one = lone (length made) in
-    let rest = count - (length made + 1) in
-    let more : length (made ++ one ∷ []) ≡ length made + 1 = length-append made (one ∷ []) in
-    let fewer : count - length (made ++ one ∷ []) ≡ rest = ap (λ n. count - n) more in
-    let before : suc rest ≡ count - length made = omega (arith, within) in
-    ap₂ (λ start n. (made ++ one ∷ []) ++ lone_from start n) more fewer
-    ∙ append_assoc made (one ∷ []) (lone_from (length made + 1) rest)
-    ∙ ap (λ n. made ++ lone_from (length made) n) before
+pub none_written : (count : ℕ) → filled 0 (replicate count None) ++ lone count ∷ [] ≡ ends (count + 1)
+none_written count =
+    ap (λ (pairs : List Pair). pairs ++ lone count ∷ []) (none_filled 0 count) ∙ sym (map-range_with_len_more lone 0 count count (omega arith))
 
 -- ---- reads
+
+-- what stands at a place, or else the end with no node
+pub filled_get : (start : ℕ) (places : List (Option Pair)) (ring : ℕ) → ring < length places → get_or (filled start places) ring nowhere ≡ end_or_lone (start + ring) (option_flatten (slice_get places ring))
+filled_get start [] ring within = absurd (omega (arith, within))
+filled_get start (place ∷ places) zero within =
+    let same : start ≡ start + 0 = omega arith in
+    ap (λ n. end_or_lone n place) same
+filled_get start (place ∷ places) (suc ring) within =
+    let same : (start + 1) + ring ≡ start + suc ring = omega arith in
+    filled_get (start + 1) places ring (omega (arith, within)) ∙ ap (λ n. end_or_lone n (option_flatten (slice_get places ring))) same
+
+pub stands_within : (places : List (Option Pair)) (ring : ℕ) (pair : Pair) → Some pair ≡ option_flatten (slice_get places ring) → ring < length places
+stands_within [] ring pair stands = absurd (cc)
+stands_within (place ∷ places) zero pair stands = omega arith
+stands_within (place ∷ places) (suc ring) pair stands = let within = stands_within places ring pair stands in omega (arith, within)
+
+pub read_filled : (places : List (Option Pair)) (ring : ℕ) (last : Pair) → ring < length places → end_or_lone ring (option_flatten (slice_get places ring)) ≡ get_or (filled 0 places ++ last ∷ []) ring nowhere
+read_filled places ring last within =
+    let short : ring < length (filled 0 places) = let is = long 0 places in omega (arith, is, within) in
+    let same : 0 + ring ≡ ring = omega arith in
+    sym (get_or_append_left (filled 0 places) (last ∷ []) nowhere ring short
+    ∙ filled_get 0 places ring within
+    ∙ ap (λ n. end_or_lone n (option_flatten (slice_get places ring))) same)
 
 nth_more : (xs : List Pair) (x : Pair) (i : ℕ) → length xs ≡ i → get_or (xs ++ x ∷ []) i nowhere ≡ x
 nth_more [] x zero same = refl
@@ -46,41 +59,23 @@ nth_more [] x (suc i) same = absurd (omega (arith, same))
 nth_more (y ∷ xs) x zero same = absurd (omega (arith, same))
 nth_more (y ∷ xs) x (suc i) same = nth_more xs x i (omega (arith, same))
 
-nth_behind : (xs rest : List Pair) (i : ℕ) → get_or (xs ++ rest) (length xs + i) nowhere ≡ get_or rest i nowhere
-nth_behind [] rest i =
-    let same : 0 + i ≡ i = omega arith in
-    ap (λ n. get_or rest n nowhere) same
-nth_behind (x ∷ xs) rest i =
-    let same : suc (length xs) + i ≡ suc (length xs + i) = omega arith in
-    ap (λ n. get_or (x ∷ (xs ++ rest)) n nowhere) same ∙ nth_behind xs rest i
-
 nth_past : (xs : List Pair) (i : ℕ) → length xs ≤ i → get_or xs i nowhere ≡ nowhere
 nth_past [] i past = refl
 nth_past (x ∷ xs) zero past = absurd (omega (arith, past))
 nth_past (x ∷ xs) (suc i) past = nth_past xs i (omega (arith, past))
 
-pub read_lone : (made : List Pair) (count ring : ℕ) (last : Pair) → length made ≤ count → length made ≤ ring → ring < count → lone ring ≡ get_or (whole made count last) ring nowhere
-read_lone made count ring last few past within =
-    let behind = ring - length made in
-    let rest = lone_from (length made) (count - length made) in
-    let at : length made + behind ≡ ring = omega (arith, past) in
-    sym (get_or_append_left (padded made count) (last ∷ []) nowhere ring (omega (arith, long made count few, within))
-    ∙ ap (λ n. get_or (made ++ rest) n nowhere) (sym at)
-    ∙ nth_behind made rest behind
-    ∙ get_or-map-range_with_len lone (length made) (count - length made) behind ring nowhere (omega (arith, past, within, few)) at)
+pub read_last : (places : List (Option Pair)) (ring : ℕ) (last : Pair) → length places ≡ ring → last ≡ get_or (filled 0 places ++ last ∷ []) ring nowhere
+read_last places ring last all = sym (nth_more (filled 0 places) last ring (long 0 places ∙ all))
 
-pub read_last : (made : List Pair) (count : ℕ) (last : Pair) → length made ≤ count → last ≡ get_or (whole made count last) count nowhere
-read_last made count last few = sym (nth_more (padded made count) last count (long made count few))
-
-pub read_past : (made : List Pair) (count ring : ℕ) (last : Pair) → length made ≤ count → count < ring → nowhere ≡ get_or (whole made count last) ring nowhere
-read_past made count ring last few over = sym (nth_past (whole made count last) ring (omega (arith, long_whole made count last few, over)))
+pub read_past : (places : List (Option Pair)) (ring : ℕ) (last : Pair) → length places < ring → nowhere ≡ get_or (filled 0 places ++ last ∷ []) ring nowhere
+read_past places ring last over = sym (nth_past (filled 0 places ++ last ∷ []) ring (omega (arith, long_whole places last, over)))
 
 -- ---- writes
 
-set_front : (made rest : List Pair) (i : ℕ) (pair : Pair) → i < length made → slice_set (made ++ rest) i pair ≡ slice_set made i pair ++ rest
+set_front : (front rest : List Pair) (i : ℕ) (pair : Pair) → i < length front → slice_set (front ++ rest) i pair ≡ slice_set front i pair ++ rest
 set_front [] rest i pair within = absurd (omega (arith, within))
-set_front (first ∷ made) rest zero pair within = refl
-set_front (first ∷ made) rest (suc i) pair within = ap (λ (pairs : List Pair). first ∷ pairs) (set_front made rest i pair (omega (arith, within)))
+set_front (first ∷ front) rest zero pair within = refl
+set_front (first ∷ front) rest (suc i) pair within = ap (λ (pairs : List Pair). first ∷ pairs) (set_front front rest i pair (omega (arith, within)))
 
 set_end : (xs : List Pair) (last pair : Pair) (i : ℕ) → length xs ≡ i → slice_set (xs ++ last ∷ []) i pair ≡ xs ++ pair ∷ []
 set_end [] last pair zero same = refl
@@ -88,16 +83,19 @@ set_end [] last pair (suc i) same = absurd (omega (arith, same))
 set_end (x ∷ xs) last pair zero same = absurd (omega (arith, same))
 set_end (x ∷ xs) last pair (suc i) same = ap (λ (pairs : List Pair). x ∷ pairs) (set_end xs last pair i (omega (arith, same)))
 
-pub set_made : (made : List Pair) (count ring : ℕ) (last pair : Pair) → length made ≤ count → ring < length made → whole (slice_set made ring pair) count last ≡ slice_set (whole made count last) ring pair
-set_made made count ring last pair few within =
-    let rest = lone_from (length made) (count - length made) in
-    ap (λ n. (slice_set made ring pair ++ lone_from n (count - n)) ++ last ∷ []) (length-set made ring pair)
-    ∙ ap (λ (pairs : List Pair). pairs ++ last ∷ []) (sym (set_front made rest ring pair within))
-    ∙ sym (set_front (padded made count) (last ∷ []) ring pair (omega (arith, long made count few, few, within)))
+filled_set : (start : ℕ) (places : List (Option Pair)) (ring : ℕ) (pair : Pair) → filled start (slice_set places ring (Some pair)) ≡ slice_set (filled start places) ring pair
+filled_set start [] ring pair = refl
+filled_set start (place ∷ places) zero pair = refl
+filled_set start (place ∷ places) (suc ring) pair = ap (λ (pairs : List Pair). end_or_lone start place ∷ pairs) (filled_set (start + 1) places ring pair)
 
-pub set_last : (made : List Pair) (count : ℕ) (last pair : Pair) → length made ≤ count → whole made count pair ≡ slice_set (whole made count last) count pair
-set_last made count last pair few = sym (set_end (padded made count) last pair count (long made count few))
+pub set_written : (places : List (Option Pair)) (ring : ℕ) (last pair : Pair) → ring < length places → filled 0 (slice_set places ring (Some pair)) ++ last ∷ [] ≡ slice_set (filled 0 places ++ last ∷ []) ring pair
+set_written places ring last pair within =
+    let short : ring < length (filled 0 places) = let is = long 0 places in omega (arith, is, within) in
+    ap (λ (pairs : List Pair). pairs ++ last ∷ []) (filled_set 0 places ring pair) ∙ sym (set_front (filled 0 places) (last ∷ []) ring pair short)
 
-pub set_over : (made : List Pair) (count ring : ℕ) (last pair : Pair) → length made ≤ count → count < ring → whole made count last ≡ slice_set (whole made count last) ring pair
-set_over made count ring last pair few over =
-    sym (set_past (whole made count last) ring pair (omega (arith, long_whole made count last few, over)))
+pub set_last : (places : List (Option Pair)) (ring : ℕ) (last pair : Pair) → length places ≡ ring → filled 0 places ++ pair ∷ [] ≡ slice_set (filled 0 places ++ last ∷ []) ring pair
+set_last places ring last pair all = sym (set_end (filled 0 places) last pair ring (long 0 places ∙ all))
+
+pub set_over : (places : List (Option Pair)) (ring : ℕ) (last pair : Pair) → length places < ring → filled 0 places ++ last ∷ [] ≡ slice_set (filled 0 places ++ last ∷ []) ring pair
+set_over places ring last pair over =
+    sym (set_past (filled 0 places ++ last ∷ []) ring pair (omega (arith, long_whole places last, over)))

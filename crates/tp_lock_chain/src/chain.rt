@@ -32,14 +32,15 @@ impl Model for ChainLocks {
 }
 
 impl ChainLocks {
-    /// A table of so many items, on which nobody has a lock.
-    pub fn opened(alloc: Global, items: usize) -> Result<ChainLocks, NoMemory>
+    /// A table of so many items, on which nobody has a lock. From the first one on it makes the ends of their rings as they
+    /// are written: for a server, the first of its own items; any number will do.
+    pub fn opened(alloc: Global, items: usize, first: usize) -> Result<ChainLocks, NoMemory>
         ensures { IfOk result (λ made. made ≡ rule.opening items) }
     {
         match u32::try_from(items) {
             Err(_) => Err(NoMemory),
             Ok(count) => {
-                let pool = opened(alloc, count)?;
+                let pool = opened(alloc, count, first)?;
                 Ok(ChainLocks { pool })
             }
         }

@@ -1,32 +1,33 @@
 //! The ends of the rings of items, made up as they are written.
-ghost use Rattle.std.specs.Prelude.{◌≡◌, ◌≤◌, ◌<◌, ◌+◌, vec_len, vec_capacity, slice_set, IfOk};
+ghost use Rattle.std.specs.Prelude.{◌≡◌, ◌+◌, slice_set, IfOk};
 ghost use Rattle.tp_lock_chain.specs.mirrors.Ends as mirror;
 ghost use Rattle.tp_lock_chain.specs.mirrors.Links.{end_of};
 
 use crate::links::{Pair, Spot, nowhere};
 use std::alloc::Global;
 use std::marker::Model;
+use tp_places::Overlay;
 use tp_types::NoMemory;
 
 /// The ends of the rings of items, and behind them that of the ring of free nodes. An end that was never written has no
-/// node. There is memory for all from the start, and ends are made up to the last that was written.
+/// node. There is memory for all from the start, so that writing one takes none.
 #[derive(Drop)]
 pub struct Ends {
     count: usize,
     last: Pair,
-    made: Vec<Pair>,
+    written: Overlay<Pair>,
 }
 
 impl Model for Ends {
-    ghost use Rattle.std.specs.Prelude.{◌≤◌, List, vec_len, vec_capacity};
+    ghost use Rattle.std.specs.Prelude.{◌≡◌, ◌++◌, [], ◌∷◌, List, length};
     ghost use Rattle.tp_lock_chain.specs.declared.links.Pair.{Pair};
-    ghost use Rattle.tp_lock_chain.specs.mirrors.Ends.{whole};
+    ghost use Rattle.tp_lock_chain.specs.mirrors.Ends.{filled};
 
     ghost Value = { List Pair };
 
-    ghost view = { λ e. whole e.made.items e.count e.last };
+    ghost view = { λ e. filled 0 e.written ++ e.last ∷ [] };
 
-    ghost invariant = { λ e. (vec_len e.made ≤ e.count) × (e.count ≤ vec_capacity e.made) };
+    ghost invariant = { λ e. length e.written ≡ e.count };
 }
 
 /// The links of an end with no node.
@@ -39,39 +40,26 @@ pub fn lone(ring: usize) -> Pair
     }
 }
 
-/// Makes the ends up to this one, each with no node. There is memory for them.
-fn reach(made: &mut Vec<Pair>, count: usize, ring: usize)
-    requires few { vec_len made.old ≤ count }
-    requires room { count ≤ vec_capacity made.old }
-    requires within { ring < count }
-    ensures same { mirror.padded made.new.items count ≡ mirror.padded made.old.items count }
-    ensures few { vec_len made.new ≤ count }
-    ensures room { vec_capacity made.new ≡ vec_capacity made.old }
-    ensures reached { ring < vec_len made.new }
-{
-    while made.len() <= ring {
-        made.push_reserved(lone(made.len()));
-    }
-}
-
 impl Ends {
-    /// As many ends, each with no node, and one more for the free nodes.
-    pub fn opened(alloc: Global, count: usize) -> Result<Ends, NoMemory>
+    /// As many ends, each with no node, and one more for the free nodes. The table of those that are written begins with
+    /// the first one; any number will do.
+    pub fn opened(alloc: Global, count: usize, first: usize) -> Result<Ends, NoMemory>
         ensures { IfOk result (λ made. made ≡ mirror.ends (count + 1)) }
     {
         Ok(Ends {
             count,
             last: lone(count),
-            made: Vec::with_capacity(alloc, count)?,
+            written: Overlay::none(alloc, count, first)?,
         })
     }
 
     /// The end of this number.
+    #[inline(always)]
     pub fn get(&self, ring: usize) -> Pair
         ensures { result ≡ end_of self.now ring }
     {
-        match self.made.get(ring) {
-            Some(pair) => *pair,
+        match self.written.get(ring) {
+            Some(pair) => pair,
             None => {
                 if ring < self.count {
                     lone(ring)
@@ -89,8 +77,7 @@ impl Ends {
         ensures { self.new ≡ slice_set self.old ring pair }
     {
         if ring < self.count {
-            reach(&mut self.made, self.count, ring);
-            self.made[ring] = pair;
+            self.written.put(ring, pair);
         } else if ring == self.count {
             self.last = pair;
         }

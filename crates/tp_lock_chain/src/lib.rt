@@ -30,8 +30,10 @@
 //! them, and 63 readers that wait for it, a turn takes 1,502,873 and 868,743. What they give is the bound, which is
 //! proved of every table; of the plain one none is.
 //!
-//! An opened table has memory for the ends of all its items' rings, and makes these ends only as they are written; that
-//! is by the bodies, and no contract says it.
+//! An opened table has memory for the ends of all its items' rings, and makes these ends only as they are written: from a
+//! first item on that its maker tells, up to the last that was written, and behind the last item those before the first
+//! (`Overlay` of `tp_places`). So a server, whose own items stand side by side, makes little of it. That is by the
+//! bodies, and no contract says it.
 //!
 //! Not claimed: a bound on the steps of a request, which reads the list of its item once, and the ring of its owner
 //! where the owner has a lock on a later item; nor how long a step takes.

@@ -1,4 +1,6 @@
 //! Rings of nodes by index: two links for each node and each end of a ring, and what they change to.
+//!
+//! What reads and writes links is put into its callers, each of which knows the kind of its rings.
 ghost use Rattle.std.specs.Prelude.{◌≡◌, slice_index_or, slice_set};
 ghost use Rattle.tp_lock_chain.specs.mirrors.Links as mirror;
 
@@ -117,6 +119,7 @@ fn pair_at(nodes: &List<Node>, kind: Kind, node: usize) -> Pair
 }
 
 /// The neighbours of a place.
+#[inline(always)]
 pub fn links(pool: &Pool, kind: Kind, spot: Spot) -> Pair
     ensures { result ≡ mirror.links kind pool.now spot }
 {
@@ -129,6 +132,7 @@ pub fn links(pool: &Pool, kind: Kind, spot: Spot) -> Pair
     }
 }
 
+#[inline(always)]
 fn set_links(pool: &mut Pool, kind: Kind, spot: Spot, pair: Pair)
     ensures { pool.new ≡ mirror.with_links kind spot pair pool.old }
 {
@@ -155,6 +159,7 @@ fn set_pair(nodes: &mut List<Node>, kind: Kind, node: usize, pair: Pair)
     }
 }
 
+#[inline(always)]
 fn set_after(pool: &mut Pool, kind: Kind, spot: Spot, after: Spot)
     ensures { pool.new ≡ mirror.with_after kind spot after pool.old }
 {
@@ -162,6 +167,7 @@ fn set_after(pool: &mut Pool, kind: Kind, spot: Spot, after: Spot)
     set_links(pool, kind, spot, Pair { after, ..pair });
 }
 
+#[inline(always)]
 fn set_before(pool: &mut Pool, kind: Kind, spot: Spot, before: Spot)
     ensures { pool.new ≡ mirror.with_before kind spot before pool.old }
 {
@@ -171,6 +177,7 @@ fn set_before(pool: &mut Pool, kind: Kind, spot: Spot, before: Spot)
 
 /// Takes a node out of its ring: its neighbours become neighbours of one another.
 #[tactic(auto, unfolding(crate::specs::mirrors::Links::unlinked))]
+#[inline(always)]
 pub fn unlink(pool: &mut Pool, kind: Kind, node: usize)
     ensures { pool.new ≡ mirror.unlinked kind node pool.old }
 {
@@ -181,6 +188,7 @@ pub fn unlink(pool: &mut Pool, kind: Kind, node: usize)
 
 /// Puts a node that stands in no ring of this kind before a place in one.
 #[tactic(auto, unfolding(crate::specs::mirrors::Links::linked_before))]
+#[inline(always)]
 pub fn link_before(pool: &mut Pool, kind: Kind, node: usize, spot: Spot)
     ensures { pool.new ≡ mirror.linked_before kind node spot pool.old }
 {

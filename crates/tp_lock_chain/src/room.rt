@@ -9,13 +9,13 @@ use std::alloc::Global;
 use tp_lock::Grant;
 use tp_types::{ItemId, List, NoMemory, TxnId};
 
-/// A pool for so many items, with no node.
-pub fn opened(alloc: Global, items: u32) -> Result<Pool, NoMemory>
+/// A pool for so many items, with no node. From the first one on the ends of their rings are made.
+pub fn opened(alloc: Global, items: u32, first: usize) -> Result<Pool, NoMemory>
     ensures { IfOk result (λ made. made ≡ room.opened items) }
 {
     Ok(Pool {
         nodes: List::new(alloc),
-        items: Ends::opened(alloc, items as usize)?,
+        items: Ends::opened(alloc, items as usize, first)?,
         owners: List::new(alloc),
         free: items,
         granted: List::new(alloc),

@@ -18,6 +18,7 @@ use tp_lock_chain::ChainLocks;
 use tp_offices::{Authority, Master, NoMore};
 use tp_recover::kept_of;
 use tp_server::Server;
+use tp_store::first_item;
 use tp_types::{
     Actor, AdminId, CredId, Cut, Item, List, Mail, NoMemory, Place, Reaction, Record, Scenario,
     ServerId, TxnId, What, both,
@@ -551,8 +552,9 @@ fn opened_servers(alloc: Global, scenario: &Scenario) -> Result<List<Part<Server
 {
     let mut made = List::from_vec(Vec::with_capacity(alloc, scenario.servers.len())?);
     for number in 0..scenario.servers.len() as u32 {
-        let locks = Locks::opened(alloc, scenario.items.len())?;
-        let server = Server::opened(alloc, scenario, ServerId(number), locks)?;
+        let server = ServerId(number);
+        let locks = Locks::opened(alloc, scenario.items.len(), first_item(scenario, server))?;
+        let server = Server::opened(alloc, scenario, server, locks)?;
         made.push(Part::opened(alloc, server)?)?;
     }
     Ok(made)

@@ -24,6 +24,7 @@ use crate::part::{Act, alone, coordinator_boots, crash_alone, no_act, server_boo
 use std::alloc::Global;
 use tp_coord::Coordinator;
 use tp_offices::{CLOCK_END, Master};
+use tp_store::first_item;
 use tp_types::{
     Actor, AdminId, CredId, Cut, List, Mail, NoMemory, Record, Scenario, ServerId, Step, TxnId,
     What, both,
@@ -435,7 +436,7 @@ fn boot_server(
     };
     let own = both(
         opening.share(),
-        Locks::opened(alloc, scenario.items.len()),
+        Locks::opened(alloc, scenario.items.len(), first_item(scenario, at)),
     );
     let (own, locks) = own?;
     let (state, act) = server_boots(part, alloc, scenario, at, own, locks)?;

@@ -1,5 +1,5 @@
--- The ends of rings, of which the first were made, and all others have no node.
-use Rattle.std.specs.Prelude.{ℕ, ◌-◌, List, [], ◌∷◌, ◌++◌, length, map}
+-- The ends of rings, of which some were written, and all others have no node.
+use Rattle.std.specs.Prelude.{ℕ, ◌+◌, List, [], ◌∷◌, map, Option, None, Some}
 use Rattle.std.specs.List.{range_with_len}
 use Rattle.tp_lock_chain.specs.declared.links.Pair.{Pair}
 use Rattle.tp_lock_chain.specs.declared.links.Spot.TheVariants.{End}
@@ -13,10 +13,12 @@ lone_from start count = map lone (range_with_len start count)
 abbrev pub ends : ℕ → List Pair
 ends count = lone_from 0 count
 
--- the ends that were made, and those with no node behind them, so many in all
-abbrev pub padded : List Pair → ℕ → List Pair
-padded made count = made ++ lone_from (length made) (count - length made)
+-- what was written of an end, or else the end with no node
+abbrev pub end_or_lone : ℕ → Option Pair → Pair
+end_or_lone ring None = lone ring
+end_or_lone ring (Some pair) = pair
 
--- the same, and the last
-abbrev pub whole : List Pair → ℕ → Pair → List Pair
-whole made count last = padded made count ++ last ∷ []
+-- the ends from this number on, of which these were written
+abbrev pub filled : ℕ → List (Option Pair) → List Pair
+filled ring [] = []
+filled ring (place ∷ places) = end_or_lone ring place ∷ filled (ring + 1) places
