@@ -11,3 +11,4 @@ pub mod Pasts
 pub mod Rules
 pub mod Start
 pub mod Timers
+pub mod Worlds

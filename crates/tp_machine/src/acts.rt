@@ -261,6 +261,44 @@ pub fn act(
     }
 }
 
+/// Does a step that is not refused, and tells nothing of it.
+pub fn act_untold(
+    actors: &mut Actors,
+    history: &mut History,
+    alloc: Global,
+    scenario: &Scenario,
+    opening: &Opening,
+    taken: &Step,
+) -> Result<(), NoMemory>
+    requires few { HasFewRules scenario.now }
+    requires opening { opening.now ≡ opening_of scenario.now }
+    requires servers { length scenario.now.servers < 2 ^ 32 }
+    requires allowed { machine.refusal (state_of actors.old history.old) taken.now ≡ None }
+    requires fits { FitLogs
+        (machine.machine_after scenario.now (machine_of actors.old history.old)
+        (received taken.now)).state.actors }
+    ensures ok { OnOk result
+        (machine_of actors.new history.new
+        ≡ machine.machine_after scenario.now (machine_of actors.old history.old) taken.now) }
+    ensures same_history { OnErr result (SameHistory history.old history.new) }
+    ensures up { OnErr result (SameUp actors.old actors.new) }
+    ensures logs { OnErr result (HasEitherLogs actors.old
+        (machine.machine_after scenario.now (machine_of actors.old history.old) taken.now).state.actors
+        actors.new) }
+{
+    match *taken {
+        Step::Crash {
+            actor,
+            cut: Some(cut),
+        } => {
+            let forced = crash_in(actors, history, alloc, scenario, actor, cut)?;
+            drop(forced);
+            Ok(())
+        }
+        _ => act_whole(actors, history, alloc, scenario, opening, taken),
+    }
+}
+
 /// Does a step that is not refused, in which no actor crashes in a receipt.
 fn act_whole(
     actors: &mut Actors,

@@ -15,7 +15,7 @@ ghost use Rattle.tp_types.specs.Each.{Each};
 ghost use Rattle.tp_machine.specs.Named.{IsActor, IsStepOf};
 
 use crate::actors::{Actors, Locks};
-use crate::acts::{act, is_armed, is_submitted, refusal};
+use crate::acts::{act, act_untold, is_armed, is_submitted, refusal};
 use crate::error::StepError;
 use crate::history::History;
 use crate::opening::Opening;
@@ -104,12 +104,25 @@ impl World {
             why ≢ StepError.NoMemory → Refuses self.old self.new taken.now why) }
         ensures memory { IsErrOf result StepError.NoMemory → GivesUp self.old self.new taken.now }
     {
-        match self.step_with_cut(alloc, taken) {
-            Ok(forced) => {
-                drop(forced);
-                Ok(())
-            }
-            Err(why) => Err(why),
+        if self.given_up {
+            return Err(StepError::NoMemory);
+        }
+        match refusal(&self.actors, &self.history, taken) {
+            Some(why) => Err(why),
+            None => match act_untold(
+                &mut self.actors,
+                &mut self.history,
+                alloc,
+                &self.scenario,
+                &self.opening,
+                taken,
+            ) {
+                Ok(()) => Ok(()),
+                Err(NoMemory) => {
+                    self.given_up = true;
+                    Err(StepError::NoMemory)
+                }
+            },
         }
     }
 
