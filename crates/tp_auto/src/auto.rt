@@ -98,6 +98,7 @@ fn lowest_down(world: &World) -> Option<Actor>
 }
 
 /// The next step that comes by itself where nobody is down.
+#[inline(always)]
 fn next_running(world: &World, cursor: u32) -> Option<Step>
     ensures value { result ≡ automatic.next_by world.now.scenario world.now.machine.state.actors
         cursor (slice_get world.now.machine.undelivered 0) }

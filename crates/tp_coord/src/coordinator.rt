@@ -218,6 +218,7 @@ impl Coordinator {
         self.turn.saturating_add(1)
     }
 
+    #[inline(always)]
     pub(crate) fn enters(&mut self, phase: Phase)
         ensures { self.new ≡ record self.old { phase = phase } }
     {
@@ -225,6 +226,7 @@ impl Coordinator {
     }
 
     /// Begins a request, whose replies the phase awaits.
+    #[inline(always)]
     pub(crate) fn awaits(&mut self, phase: Phase)
         ensures { self.new ≡ record self.old { turn = row.next_turn self.old; phase = phase } }
     {

@@ -47,6 +47,7 @@ impl Coordinator {
     }
 
     /// The transaction goes on by a move, after so many rounds where all have voted.
+    #[inline(always)]
     pub(crate) fn makes(
         &mut self,
         alloc: Global,

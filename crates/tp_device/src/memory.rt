@@ -270,6 +270,7 @@ impl Disk for MemoryDisk {
         Ok(count)
     }
 
+    #[inline(always)]
     fn write_at(&mut self, at: u64, piece: &[u8]) -> Result<(), DiskError>
         requires { at ≤ length self.old.disk.seen }
         ensures effect { CallEffect (Write at piece.now) self.old.disk result self.new.disk }

@@ -69,6 +69,7 @@ fn is_part_armed(up: Option<&Coordinator>) -> bool
 }
 
 /// Why a step is refused, if it is.
+#[inline(always)]
 pub fn refusal(actors: &Actors, history: &History, taken: &Step) -> Option<StepError>
     ensures { result ≡ machine.refusal (state_of actors.now history.now) taken.now }
 {

@@ -60,6 +60,7 @@ impl<L: LockTable + Drop> Server<L> {
     }
 
     /// Forces how a transaction ended, ends its entry, releases its locks, and sends the letter; what waited for them goes on.
+    #[inline(always)]
     pub(crate) fn ends(
         &mut self,
         alloc: Global,

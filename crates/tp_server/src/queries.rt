@@ -144,6 +144,7 @@ impl<L: LockTable + Drop> Server<L> {
     }
 
     /// An answer that ends the transaction is kept, and given by the letter.
+    #[inline(always)]
     #[tactic(auto, using(crate::proofs::Tables::set_twice))]
     fn answers_with(
         &mut self,
@@ -377,6 +378,7 @@ impl<L: LockTable + Drop> Server<L> {
     }
 
     /// Takes the entry of a transaction, or makes one.
+    #[inline(always)]
     fn take_entry(
         &mut self,
         alloc: Global,
