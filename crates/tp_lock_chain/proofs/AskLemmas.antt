@@ -17,15 +17,17 @@ use Rattle.tp_lock.proofs.RequestLaws.{after_request_orderly}
 use Rattle.tp_lock_chain.specs.declared.ask.Ask.{Ask}
 use Rattle.tp_lock_chain.specs.declared.ask.Found.{Found}
 use Rattle.tp_lock_chain.specs.declared.links.Kind.TheVariants.{Item}
+use Rattle.tp_lock_chain.specs.declared.links.Pair.{Pair}
 use Rattle.tp_lock_chain.specs.declared.links.Pool.{Pool}
-use Rattle.tp_lock_chain.specs.mirrors.Ask.{adds, answer, answer_of, elder_of, entered, look, met, met_all, nothing, waits}
-use Rattle.tp_lock_chain.specs.mirrors.Links.{node_at}
-use Rattle.tp_lock_chain.specs.mirrors.Pool.{IsChained, IsKept, entries_of, entry_at, in_item, list_of, ring_of, shown}
-use Rattle.tp_lock_chain.specs.mirrors.Rings.{is_in}
-use Rattle.tp_lock_chain.specs.mirrors.Room.{Adds, Keeps, with_list}
-use Rattle.tp_lock_chain.proofs.EnterLemmas.{entered_is}
-use Rattle.tp_lock_chain.proofs.MoveLemmas.{in_item_parts}
-use Rattle.tp_lock_chain.proofs.SettleLemmas.{entries_stay, its_nodes}
+use Rattle.tp_lock_chain.specs.declared.links.Spot.TheVariants.{End, On}
+use Rattle.tp_lock_chain.specs.mirrors.Ask.{adds, answer, answer_of, elder_of, entered, entered_new, look, made, met, met_all, nothing, waits}
+use Rattle.tp_lock_chain.specs.mirrors.Links.{links, moved, with_entry}
+use Rattle.tp_lock_chain.specs.mirrors.Pool.{IsChained, IsKept, entries_of, entry_at, list_of, ring_of, shown}
+use Rattle.tp_lock_chain.specs.mirrors.Room.{Adds, Keeps, with_list, with_place}
+use Rattle.tp_lock_chain.proofs.EnterLemmas.{IsEntered, entered_is}
+use Rattle.tp_lock_chain.proofs.PlaceLemmas.{first_is_free, made_placed, moved_placed}
+use Rattle.tp_lock_chain.proofs.RoomLemmas.{keeps_twice, one_place, with_place_keeps}
+use Rattle.tp_lock_chain.proofs.SettleLemmas.{entries_stay}
 
 -- ---- what a list says
 
@@ -129,20 +131,12 @@ one_list count at f g lt same = sym (fill_by_all g (set (map f (range_with_len 0
 
 -- ---- an entry that is added
 
--- with room for it, the list of its item has it
-entered_shows : (pool : Pool) (node item : ℕ) (entry : LockEntry) → IsChained pool → entry.owner.0 < length pool.owners → item < pool.free → in_item pool pool.free node ≡ true
-    → shown (entered node item entry pool) ≡ with_list item (list_of pool item ++ entry ∷ []) (shown pool)
-entered_shows pool node item entry chained owner_lt lt here =
-    let is = entered_is pool node item entry chained owner_lt lt here in
-    let new = entered node item entry pool in
-    let item_lt : (other : ℕ) → other < pool.free → other < length pool.items = λ other lt'. subst (λ (n : ℕ). other < n) (sym chained.ends) (omega arith) in
-    let not_it : (other : ℕ) → other < pool.free → (n : ℕ) → is_in n (ring_of Item pool other) ≡ true → n ≢ node = λ other lt' n is_there same.
-    let ring = (its_nodes pool other chained (item_lt other lt') n is_there).1 in
-    let free = (in_item_parts pool pool.free node here).1 in
-    let equal : other ≡ pool.free = sym ring ∙ ap (λ m. (node_at pool m).ring) same ∙ free in
-    let clash : pool.free < pool.free = subst (λ (m : ℕ). m < pool.free) equal lt' in omega arith in
+-- the list of its item has it
+entered_shows : (pool new : Pool) (node item : ℕ) (entry : LockEntry) → IsChained pool → item < pool.free → IsEntered pool new node item entry
+    → shown new ≡ with_list item (list_of pool item ++ entry ∷ []) (shown pool)
+entered_shows pool new node item entry chained lt is =
     let stay : (other : ℕ) → other < pool.free → entries_of new (ring_of Item pool other) ≡ list_of pool other = λ other lt'.
-    entries_stay pool new (ring_of Item pool other) (λ n is_there. is.entries_else n (not_it other lt' n is_there)) in
+    entries_stay pool new (ring_of Item pool other) (λ n is_there. is.entries_else n (is.unlisted other n lt' is_there)) in
     let now : list_of new item ≡ list_of pool item ++ entry ∷ [] =
     ap (entries_of new) is.gained ∙ map-append (entry_at new) (ring_of Item pool item) (node ∷ [])
     ∙ ap₂ (λ (es : List LockEntry) (e : LockEntry). es ++ e ∷ []) (stay item lt) is.entry_now in
@@ -153,18 +147,45 @@ entered_shows pool node item entry chained owner_lt lt here =
     ap₂ (λ (ls : List (List LockEntry)) (gs : List Grant). let table : Table = record { lists = ls; grants = gs } in table) lists
     (ap₂ (λ (n : ℕ) (gs : List Grant). drop n gs) is.next (ap₂ (λ (n : ℕ) (gs : List Grant). take n gs) is.given is.granted))
 
-pub adds_entry : (pool ready new : Pool) (node item : ℕ) (entry : LockEntry) → Keeps pool ready → entry.owner.0 < length ready.owners → (IsKept pool → in_item ready ready.free node ≡ true)
-    → new ≡ entered node item entry ready → Adds item entry pool new
-adds_entry pool ready new node item entry keeps owner_lt here new_is = record {
-  chained = λ kept lt.
-      let lt' : item < ready.free = subst (λ (n : ℕ). item < n) (sym keeps.free) lt in
-      subst (λ (p : Pool). IsChained p) (sym new_is) (entered_is ready node item entry (keeps.kept kept).chained owner_lt lt' (here kept)).chained;
+adds_entry : (pool ready new : Pool) (node item : ℕ) (entry : LockEntry) → Keeps pool ready → (IsKept pool → item < ready.free → IsEntered ready new node item entry) → Adds item entry pool new
+adds_entry pool ready new node item entry keeps is = record {
+  chained = λ kept lt. (is kept (subst (λ (n : ℕ). item < n) (sym keeps.free) lt)).chained;
   shows = λ kept lt.
       let lt' : item < ready.free = subst (λ (n : ℕ). item < n) (sym keeps.free) lt in
       let same : list_of ready item ≡ list_of pool item = sym (list_at ready item lt') ∙ ap (λ (t : Table). get_or t.lists item []) (keeps.same kept) ∙ list_at pool item lt in
-      ap shown new_is ∙ entered_shows ready node item entry (keeps.kept kept).chained owner_lt lt' (here kept)
+      entered_shows ready new node item entry (keeps.kept kept).chained lt' (is kept lt')
       ∙ ap₂ (λ (es : List LockEntry) (t : Table). with_list item (es ++ entry ∷ []) t) same (keeps.same kept);
 }
+
+-- of free nodes, where there are some, it is the first that gets the entry
+pub adds_free : (pool ready new : Pool) (pair : Pair) (node item : ℕ) (entry : LockEntry) → Keeps pool ready → entry.owner.0 < length ready.owners → pair ≡ links Item ready (End ready.free)
+    → pair.after ≡ On node → new ≡ entered node item entry ready → Adds item entry pool new
+unfolding entered
+adds_free pool ready new pair node item entry keeps owner_lt read first new_is =
+    adds_entry pool ready new node item entry keeps (λ kept lt.
+    let now = keeps.kept kept in
+    let at_end = moved_placed ready node item entry now.chained lt (first_is_free ready pair node read first now) in
+    subst (λ (p : Pool). IsEntered ready p node item entry) (sym new_is) (entered_is ready (moved node item (with_entry node entry ready)) node item entry now.chained owner_lt lt at_end))
+
+-- and otherwise a new one, behind all others
+pub adds_new : (pool ready mid new : Pool) (item : ℕ) (entry : LockEntry) → Keeps pool ready → entry.owner.0 < length ready.owners → mid ≡ with_place ready
+    → new ≡ entered_new item entry mid → Adds item entry pool new
+unfolding entered_new
+adds_new pool ready mid new item entry keeps owner_lt mid_is new_is =
+    let placed = with_place ready in
+    adds_entry pool placed new (length ready.nodes) item entry (keeps_twice pool ready placed keeps (with_place_keeps ready)) (λ kept lt.
+    let was = (keeps.kept kept).chained in
+    let now = ((with_place_keeps ready).kept (keeps.kept kept)).chained in
+    let more = one_place ready in
+    let room = was.room in
+    let at_end = made_placed placed item entry now lt (omega arith) in
+    subst (λ (p : Pool). IsEntered placed p (length ready.nodes) item entry) (sym (new_is ∙ ap (entered_new item entry) mid_is))
+    (entered_is placed (made item entry placed) (length ready.nodes) item entry now owner_lt lt at_end))
+
+-- where memory for it is refused the lists stay
+pub keeps_place : (pool ready mid new : Pool) → Keeps pool ready → mid ≡ with_place ready → new ≡ mid → Keeps pool new
+keeps_place pool ready mid new keeps mid_is new_is =
+    subst (λ (p : Pool). Keeps pool p) (sym (new_is ∙ mid_is)) (keeps_twice pool ready (with_place ready) keeps (with_place_keeps ready))
 
 -- ---- the table after a request
 

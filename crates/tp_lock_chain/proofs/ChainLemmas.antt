@@ -1,5 +1,5 @@
 -- A node that is freed, and one that gets an entry: rings and their order are kept, and one list changes.
-use Rattle.std.proofs.Common.{◌≡◌, ◌≢◌, ◌==◌, ◌<◌, ◌≤◌, ◌&&◌, ◌||◌, not, ℕ, suc, true, false, List, [], ◌∷◌, ◌++◌, length, refl, sym, ap, ap₂, subst, ◌∙◌, inl, inr, arith}
+use Rattle.std.proofs.Common.{◌≡◌, ◌≢◌, ◌==◌, ◌<◌, ◌≤◌, ◌&&◌, ◌||◌, not, ℕ, suc, Bool, true, false, List, [], ◌∷◌, ◌++◌, length, refl, sym, ap, ap₂, subst, ◌∙◌, inl, inr, arith}
 use Rattle.std.specs.Prelude.{nat_lt}
 use Rattle.std.proofs.lemmas.Bool.{and_from, and_left, and_parts, and_right, both_ways, cases_eq, eq-eqb, eqb-true, lt-ltb, ltb-true, ne_eqb, not-true, not_from_false, not_from_true}
 use Rattle.tp_lock.specs.declared.entry.LockEntry.{LockEntry}
@@ -8,7 +8,7 @@ use Rattle.tp_lock_chain.specs.declared.links.Pool.{Pool}
 use Rattle.tp_lock_chain.specs.declared.links.Spot.TheVariants.{End}
 use Rattle.tp_lock_chain.specs.mirrors.Leave.{freed}
 use Rattle.tp_lock_chain.specs.mirrors.Links.{links, moved, node_at, unlinked}
-use Rattle.tp_lock_chain.specs.mirrors.Pool.{AreRising, IsChained, in_item, in_owner, ring_of}
+use Rattle.tp_lock_chain.specs.mirrors.Pool.{AreRising, IsChained, in_item, in_owner, is_there, ring_of}
 use Rattle.tp_lock_chain.specs.mirrors.Rings.{AreLinked, AreRings, is_in}
 use Rattle.tp_lock_chain.proofs.FamilyLemmas.{IsOne, found_is, found_rings, rings_without, stands_where}
 use Rattle.tp_lock_chain.proofs.LinkLemmas.{IsThere, near_node, unlinked_is, unlinked_other_kind, unlinked_relinked}
@@ -50,11 +50,11 @@ in_owner_else pool owner node ne =
 pub one_owner : (pool : Pool) → IsOne (in_owner pool)
 one_owner pool node one other a b = sym (in_owner_parts pool one node a).2 ∙ (in_owner_parts pool other node b).2
 
-pub in_owner_same : (pool new : Pool) (owner node : ℕ) → length new.nodes ≡ length pool.nodes → new.free ≡ pool.free → (node_at new node).ring ≡ (node_at pool node).ring
+pub in_owner_same : (pool new : Pool) (owner node : ℕ) → is_there new node ≡ is_there pool node → new.free ≡ pool.free → (node_at new node).ring ≡ (node_at pool node).ring
     → (node_at new node).entry ≡ (node_at pool node).entry → in_owner new owner node ≡ in_owner pool owner node
 in_owner_same pool new owner node same free ring entry =
-    ap₂ (λ (n f : ℕ). nat_lt node n && (not ((node_at new node).ring == f) && ((node_at new node).entry.owner.0 == owner))) same free
-    ∙ ap₂ (λ (r : ℕ) (e : LockEntry). nat_lt node (length pool.nodes) && (not (r == pool.free) && (e.owner.0 == owner))) ring entry
+    ap₂ (λ (b : Bool) (f : ℕ). b && (not ((node_at new node).ring == f) && ((node_at new node).entry.owner.0 == owner))) same free
+    ∙ ap₂ (λ (r : ℕ) (e : LockEntry). is_there pool node && (not (r == pool.free) && (e.owner.0 == owner))) ring entry
 
 -- ---- nodes that go by items
 
@@ -147,7 +147,7 @@ freed_is pool owner node chained owner_lt here =
     let owned3 : (r n : ℕ) → in_owner new r n ≡ but (in_owner pool) node r n = λ r n. elim (cases_eq n node) [
       | inl same ↦
           ap (in_owner new r) same ∙ in_owner_free new r node (move.ring_now ∙ sym free3) ∙ sym ((but_is_less (in_owner pool) node).none r) ∙ ap (but (in_owner pool) node r) (sym same)
-      | inr ne ↦ in_owner_same pool new r n nodes3 free3 (else3 n ne) (entries3 n) ∙ sym ((but_is_less (in_owner pool) node).others r n ne)
+      | inr ne ↦ in_owner_same pool new r n (ap (nat_lt n) nodes3) free3 (else3 n ne) (entries3 n) ∙ sym ((but_is_less (in_owner pool) node).others r n ne)
     ] in
     let by_owner : AreRings (links Owner new) (length new.owners) (in_owner new) left =
     rings_same (links Owner one) (links Owner new) (length pool.owners) (length new.owners) (but (in_owner pool) node) (in_owner new) left move.by_owner owners3 owned3 without.2 in

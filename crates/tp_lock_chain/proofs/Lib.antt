@@ -9,6 +9,7 @@ mod LinkLemmas
 mod ListLemmas
 mod LoopLemmas
 mod MoveLemmas
+mod PlaceLemmas
 mod ReadLemmas
 mod ReleaseLemmas
 mod RingLemmas

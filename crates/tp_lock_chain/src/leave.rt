@@ -141,6 +141,7 @@ fn settle<T: Tally>(pool: &mut Pool, ring: u32, tally: &mut T)
 
 /// Takes a node out of both of its rings, and makes it free.
 #[tactic(auto, unfolding(crate::specs::mirrors::Leave::freed))]
+#[inline(always)]
 fn free<T: Tally>(pool: &mut Pool, node: usize, tally: &mut T)
     ensures pool { pool.new ≡ mirror.freed node pool.old }
     ensures steps { T.counted tally.new ≤ T.counted tally.old + 2 }

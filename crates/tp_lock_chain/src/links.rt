@@ -226,6 +226,7 @@ pub fn set_entry(pool: &mut Pool, node: usize, entry: LockEntry)
 
 /// Moves a node from its item's ring to the end of another.
 #[tactic(auto, unfolding(crate::specs::mirrors::Links::moved))]
+#[inline(always)]
 pub fn move_to(pool: &mut Pool, node: usize, ring: u32)
     ensures { pool.new ≡ mirror.moved node ring pool.old }
 {

@@ -1,12 +1,11 @@
-//! Room for a new entry: the ring of its owner, and a free node. Here alone is memory taken.
-ghost use Rattle.std.specs.Prelude.{◌≡◌, ◌<◌, ◌+◌, true, length, IfOk, OnOk, OnErr};
-ghost use Rattle.tp_lock_chain.specs.mirrors.Pool as mirror;
+//! Room for a new entry: the ring of its owner, a place for its grant, and its node. Here alone is memory taken.
+ghost use Rattle.std.specs.Prelude.{◌≡◌, ◌<◌, length, IfOk, OnOk, OnErr};
 ghost use Rattle.tp_lock_chain.specs.mirrors.Room as room;
 
 use crate::ends::{Ends, lone};
-use crate::links::{Kind, Node, Pool, Spot, blank, link_before, links};
+use crate::links::{Node, Pool, blank};
 use std::alloc::Global;
-use tp_lock::Grant;
+use tp_lock::{Grant, LockEntry};
 use tp_types::{ItemId, List, NoMemory, TxnId};
 
 /// A pool for so many items, with no node. From the first one on the ends of their rings are made.
@@ -36,7 +35,7 @@ pub fn reach(pool: &mut Pool, owner: usize) -> Result<(), NoMemory>
 }
 
 /// One place more for a grant.
-fn place_for_grant(pool: &mut Pool) -> Result<(), NoMemory>
+pub fn place_for_grant(pool: &mut Pool) -> Result<(), NoMemory>
     ensures ok { OnOk result (pool.new ≡ room.with_place pool.old) }
     ensures err { OnErr result (pool.new ≡ pool.old) }
 {
@@ -46,29 +45,17 @@ fn place_for_grant(pool: &mut Pool) -> Result<(), NoMemory>
     })
 }
 
-/// One free node more, behind all others.
-fn new_node(pool: &mut Pool) -> Result<usize, NoMemory>
+/// One node more, with this entry and of this item, behind all others. It stands in no ring.
+pub fn new_node(pool: &mut Pool, ring: u32, entry: LockEntry) -> Result<usize, NoMemory>
     ensures node { IfOk result (λ node. node ≡ length pool.old.nodes) }
-    ensures ok { OnOk result (pool.new ≡ room.with_node pool.old) }
+    ensures ok { OnOk result (pool.new ≡ room.with_node ring entry pool.old) }
     ensures err { OnErr result (pool.new ≡ pool.old) }
 {
     let node = pool.nodes.len();
-    let ring = pool.free;
-    pool.nodes.push(Node { ring, ..blank() })?;
-    link_before(pool, Kind::Item, node, Spot::End(ring as usize));
+    pool.nodes.push(Node {
+        entry,
+        ring,
+        ..blank()
+    })?;
     Ok(node)
-}
-
-/// A free node, the first of those that there are, or a new one.
-pub fn free_node(pool: &mut Pool) -> Result<usize, NoMemory>
-    ensures keeps { room.Keeps pool.old pool.new }
-    ensures owners { length pool.new.owners ≡ length pool.old.owners }
-    ensures free { pool.new.free ≡ pool.old.free }
-    ensures node { IfOk result (λ node. mirror.IsKept pool.old → mirror.in_item pool.new pool.new.free node ≡ true) }
-{
-    if let Spot::On(node) = links(pool, Kind::Item, Spot::End(pool.free as usize)).after {
-        return Ok(node);
-    }
-    place_for_grant(pool)?;
-    new_node(pool)
 }

@@ -3,11 +3,9 @@ use Rattle.std.specs.Prelude.{ℕ, ◌+◌, ◌≡◌, ◌<◌, List, [], ◌∷
 use Rattle.tp_lock.specs.Rule.{grant_of}
 use Rattle.tp_lock.specs.Table.{Table}
 use Rattle.tp_lock.specs.declared.entry.LockEntry.{LockEntry}
-use Rattle.tp_lock_chain.specs.declared.links.Kind.TheVariants.{Item}
 use Rattle.tp_lock_chain.specs.declared.links.Pool.{Pool}
-use Rattle.tp_lock_chain.specs.declared.links.Spot.TheVariants.{End}
 use Rattle.tp_lock_chain.specs.mirrors.Ends.{ends, lone}
-use Rattle.tp_lock_chain.specs.mirrors.Links.{blank, linked_before}
+use Rattle.tp_lock_chain.specs.mirrors.Links.{blank}
 use Rattle.tp_lock_chain.specs.mirrors.Pool.{IsChained, IsKept, list_of, shown}
 
 abbrev pub opened : ℕ → Pool
@@ -29,13 +27,10 @@ abbrev pub with_place : Pool → Pool
 with_place pool =
     record pool { granted = pool.granted ++ grant_of (record { 0 = 0 }) 0 ∷ [] }
 
--- one node more, in no ring
-abbrev pub with_blank : Pool → Pool
-with_blank pool =
-    record pool { nodes = pool.nodes ++ record blank { ring = pool.free } ∷ [] }
-
-abbrev pub with_node : Pool → Pool
-with_node pool = linked_before Item (length pool.nodes) (End pool.free) (with_blank pool)
+-- one node more, with this entry and of this item, in no ring
+abbrev pub with_node : ℕ → LockEntry → Pool → Pool
+with_node ring entry pool =
+    record pool { nodes = pool.nodes ++ record blank { entry = entry; ring = ring } ∷ [] }
 
 -- what holds of the old holds of the new, which shows the same
 pub record Keeps (old new : Pool) : Type 0 where
