@@ -7,10 +7,10 @@ use Rattle.tp_device.specs.declared.disk.DiskError.{DiskError}
 use Rattle.tp_device.specs.declared.disk.DiskError.TheVariants as errors
 use Rattle.tp_record.specs.Records.{IsRecord}
 use Rattle.tp_record.specs.Spelling.{spelling}
-use Rattle.tp_log.specs.Images.{blocks}
+use Rattle.tp_log.specs.Images.{Ends, blocks}
 use Rattle.tp_log.specs.Logs.{Adds, Fails, GivesEither, Keeps, LogState, Makes, Stays, append_calls, body_max}
 use Rattle.tp_log.specs.mirrors.Steps.{Step, Steps, forced_calls}
-use Rattle.tp_log.proofs.Appends.{After, Kept, after_steps}
+use Rattle.tp_log.proofs.Appends.{After, Kept, after_steps, clean_image}
 
 abbrev failed_is : Result (Unit {0}) DiskError → Result (Unit {0}) DiskError
 failed_is result = result
@@ -32,6 +32,13 @@ module _ {D : Type 0} (state : D → DiskState) (left_since : D → D → List �
       by_error : (e : DiskError) → Step state left_since does faults call old (Err e) new → failed_is (Err errors.Failed) ≡ failed_is (Err e) → Rose (faults old) (faults new)
       by_error errors.Failed step e = step.cause.failed refl
       by_error errors.NoMemory step e = absurd cc
+
+  -- no call was made of the disk
+  pub unmoved : (log : LogState D) (r : Record) (records : List Record) → Keeps state log records → LeavesOnly left_since log.disk log.disk (GivesEither records r)
+  unmoved log r records keeps image left =
+      let seen = (state log.disk).seen in
+      let image-is : image ≡ seen = clean_image seen image (subst (λ (s : DiskState). MayLeave s image) keeps.forced (only_now log.disk image left)) in
+      inl (inr (subst (λ (b : List ℕ). Ends b records) (sym image-is) keeps.at_gate.ends))
 
   abbrev log : D → ℕ → Bool → LogState D
   log disk gate closed = record { disk = disk; gate = gate; closed = closed }

@@ -1,5 +1,5 @@
 //! A log on a disk.
-use crate::block::block_of;
+use crate::block::block_into;
 use crate::calls::force;
 use crate::error::LogError;
 use crate::image::{given_by, records_of};
@@ -8,6 +8,7 @@ use crate::running::{sync_running, write_gate_running};
 use std::alloc::Global;
 use std::marker::Model;
 use tp_device::{Disk, DiskError, MemoryDisk};
+use tp_record::Writer;
 use tp_types::{List, NoMemory, Record};
 
 /// What a log has behind a gate.
@@ -98,7 +99,8 @@ impl<D: Disk> Log<D> {
     }
 
     /// Adds a record with four calls of the disk: the body and a closed gate behind it, a sync, the gate before it,
-    /// and a sync. The room for the bytes is taken before the first.
+    /// and a sync. The room for the bytes is there before the first: it takes memory only for a record that is longer
+    /// than a usual one.
     /// If a write was refused memory and the body stands behind the closed gate, it is not read, and the next
     /// append writes over it.
     pub fn append(&mut self, alloc: Global, r: &Record) -> Result<(), LogError>
@@ -110,11 +112,13 @@ impl<D: Disk> Log<D> {
         if self.closed {
             return Err(LogError::Closed);
         }
-        let bytes = block_of(alloc, r)?;
+        let mut block = Writer::new(alloc);
+        block_into(&mut block, r)?;
+        let bytes = block.as_slice();
         let Some(next) = self.gate.checked_add(bytes.len() as u64) else {
             return Err(LogError::NoMemory);
         };
-        match force(&mut self.disk, self.gate, &bytes) {
+        match force(&mut self.disk, self.gate, bytes) {
             Ok(()) => {
                 self.gate = next;
                 Ok(())

@@ -2,8 +2,8 @@
 //!
 //! What is promised, with the contract that carries it:
 //!
-//! - A record is written as its spelling, and every record that `encode` was given is in range (`encode`:
-//!   `spelled`, `range`)
+//! - A record is written as its spelling, and every record that `encode` was given is in range (`encode`,
+//!   `encode_into`: `spelled`, `range`)
 //! - What is found is a record whose spelling the bytes begin with, and the spelling's length (`decode`:
 //!   `found`)
 //! - A record whose spelling the bytes begin with is found, whatever follows; nothing is found exactly where
@@ -31,16 +31,22 @@ use bytes::{Halt, Reader};
 use spelled::{Spelled, write_count};
 use std::alloc::Global;
 use tp_types::{List, NoMemory, Record, Text};
-use written::Writer;
+pub use written::Writer;
 
-/// Puts a count into the first four bytes.
-#[tactic(auto, unfolding(crate::specs::Spelling::short))]
-fn set_count(bytes: &mut [u8], count: usize)
-    requires { 4 ≤ length bytes.old }
-    ensures { bytes.new ≡ spell.short count ++ drop 4 bytes.old }
+/// Writes the one spelling of a record, in place of what was written before. It is as of `encode`, and takes memory only
+/// for more bytes than stand in the writer.
+#[tactic(auto, using(crate::proofs::CountLemmas::counted_length))]
+pub fn encode_into(out: &mut Writer, r: &Record) -> Result<(), NoMemory>
+    ensures spelled { OnOk result (out.new ≡ spell.spelling r.now) }
+    ensures range { OnOk result (IsInRange r.now) }
 {
-    let count = (count as u64).to_be_bytes();
-    bytes[..4].copy_from_slice(&count[4..]);
+    out.clear();
+    // the length is known once the content is written behind it
+    write_count(out, 0)?;
+    r.write_to(out)?;
+    let count = out.len() - 4;
+    out.set_count(count);
+    Ok(())
 }
 
 /// The one spelling of a record. It is meant for records whose spelling has fewer than 2^32 bytes: of a longer one
@@ -48,19 +54,14 @@ fn set_count(bytes: &mut [u8], count: usize)
 /// It asks nothing of the record, since a log has to tell one that is too long from one that fits, and so spells
 /// it first. Of a record of 2^32 bytes or more a length field or a count has the lowest 32 bits, and no reader
 /// finds it again.
-#[tactic(auto, using(crate::proofs::CountLemmas::counted_length))]
 pub fn encode(alloc: Global, r: &Record) -> Result<Text, NoMemory>
     ensures spelled { IfOk result (λ text. text.0 ≡ spell.spelling r.now) }
     ensures range { OnOk result (IsInRange r.now) }
 {
-    let mut out = Writer::new(alloc)?;
-    // the length is known once the content is written behind it
-    write_count(&mut out, 0)?;
-    r.write_to(&mut out)?;
-    let mut body = out.into_vec();
-    let count = body.len() - 4;
-    set_count(&mut body, count);
-    Ok(Text(List::from_vec(body)))
+    let mut out = Writer::new(alloc);
+    encode_into(&mut out, r)?;
+    let bytes = out.as_slice().to_vec(alloc)?;
+    Ok(Text(List::from_vec(bytes)))
 }
 
 /// Reads a body.
