@@ -1,6 +1,7 @@
 //! Bytes that are being written, at the end.
-ghost use Rattle.std.specs.Prelude.{◌≡◌, ◌≤◌, ◌<◌, ◌+◌, [], ◌∷◌, ◌++◌, length, drop, OnOk};
+ghost use Rattle.std.specs.Prelude.{◌≡◌, ◌≤◌, ◌<◌, ◌+◌, [], ◌∷◌, ◌++◌, length, take, drop, OnErr, OnOk};
 ghost use Rattle.tp_record.specs.Spelling as spell;
+ghost use Rattle.tp_record.specs.mirrors.Room.{room_of};
 
 use std::alloc::Global;
 use std::marker::Model;
@@ -9,35 +10,71 @@ use tp_types::NoMemory;
 /// Room for a usual record and the one byte that a log puts behind it, in bytes, so that it takes no memory.
 const USUAL: usize = 256;
 
+/// How many bytes of room are made behind those that are asked for.
+const BEYOND: usize = 1024;
+
 /// Puts a count into the first four bytes.
 #[tactic(auto, unfolding(crate::specs::Spelling::short))]
 fn put_count(bytes: &mut [u8], count: usize)
     requires { 4 ≤ length bytes.old }
-    ensures { bytes.new ≡ spell.short count ++ drop 4 bytes.old }
+    ensures fits { length bytes.new ≡ length bytes.old }
+    ensures counted { bytes.new ≡ spell.short count ++ drop 4 bytes.old }
 {
     let count = (count as u64).to_be_bytes();
     bytes[..4].copy_from_slice(&count[4..]);
 }
 
-/// Bytes that are being written. Up to 256 of them stand in the value itself, and only more take memory.
+/// Writes a piece into the room, behind what was written.
+#[inline(always)]
+fn put_behind(room: &mut [u8], len: usize, piece: &[u8])
+    requires { len + length piece.now ≤ length room.old }
+    ensures fits { length room.new ≡ length room.old }
+    ensures written { take (len + length piece.now) room.new ≡ take len room.old ++ piece.now }
+{
+    room[len..len + piece.len()].copy_from_slice(piece);
+}
+
+/// Makes room in `far` up to this length and well beyond it, so that it is seldom called. It begins with what stood in
+/// the room before.
+#[inline(never)]
+fn make_room(near: &[u8; USUAL], far: &mut Vec<u8>, end: usize) -> Result<(), NoMemory>
+    requires { length (room_of near.now far.old.items) < end }
+    ensures stays { OnOk result (take (length (room_of near.now far.old.items)) far.new.items
+        ≡ room_of near.now far.old.items) }
+    ensures fits { OnOk result (end ≤ length far.new.items) }
+    ensures refused { OnErr result (far.new.items ≡ far.old.items) }
+{
+    let is_first = far.is_empty();
+    far.resize(end.saturating_add(BEYOND), 0)?;
+    if is_first {
+        put_behind(far, 0, near);
+    }
+    Ok(())
+}
+
+/// Bytes that are being written. Up to 256 of them stand in the value itself, and only more take memory. The room for
+/// them is there before them, so that a number is one copy into it.
 #[derive(Drop)]
 pub struct Writer {
-    /// What was written, while it fits, and the room behind it.
+    /// The room, while `far` is empty.
     near: [u8; USUAL],
-    /// What was written, once it does not fit.
+    /// The room, once 256 bytes did not do.
     far: Vec<u8>,
     /// How many bytes were written.
     len: usize,
 }
 
 impl Model for Writer {
-    ghost use Rattle.std.specs.Prelude.{◌≡◌, ◌<◌, ℕ, List, length, take, cond, nat_lt};
+    ghost use Rattle.std.specs.Prelude.{◌≤◌, ℕ, List, length, take};
+    ghost use Rattle.tp_record.specs.mirrors.Room.{room_of};
 
     ghost Value = { List ℕ };
 
-    ghost view = { λ w. cond (nat_lt 256 w.len) w.far.items (take w.len w.near) };
+    ghost view = { λ w. take w.len (room_of w.near w.far.items) };
 
-    ghost invariant = { λ w. 256 < w.len → length w.far.items ≡ w.len };
+    // The room is never shorter than `near`, so what fits that and not `far` goes to `near`.
+    ghost invariant = { λ w. (w.len ≤ length (room_of w.near w.far.items))
+        × (256 ≤ length (room_of w.near w.far.items)) };
 }
 
 impl Writer {
@@ -53,31 +90,20 @@ impl Writer {
         }
     }
 
-    /// Writes these bytes at the end of what does not fit the value.
-    #[inline(never)]
-    fn put_far(&mut self, piece: &[u8]) -> Result<(), NoMemory>
-        requires { 256 < length self.old + length piece.now }
-        ensures { OnOk result (self.new ≡ self.old ++ piece.now) }
-    {
-        if self.len <= USUAL {
-            self.far.clear();
-            self.far.extend_from_slice(&self.near[..self.len])?;
-        }
-        self.far.extend_from_slice(piece)?;
-        self.len = self.far.len();
-        Ok(())
-    }
-
     /// Writes these bytes at the end.
     #[inline(always)]
     pub(crate) fn put(&mut self, piece: &[u8]) -> Result<(), NoMemory>
         ensures { OnOk result (self.new ≡ self.old ++ piece.now) }
     {
         let end = self.len + piece.len();
-        if end > USUAL {
-            return self.put_far(piece);
+        if end <= self.far.len() {
+            put_behind(&mut self.far, self.len, piece);
+        } else if end <= USUAL {
+            put_behind(&mut self.near, self.len, piece);
+        } else {
+            make_room(&self.near, &mut self.far, end)?;
+            put_behind(&mut self.far, self.len, piece);
         }
-        self.near[self.len..end].copy_from_slice(piece);
         self.len = end;
         Ok(())
     }
@@ -90,7 +116,7 @@ impl Writer {
         self.put(&[byte])
     }
 
-    /// Forgets what was written.
+    /// Forgets what was written, and keeps the room.
     pub(crate) fn clear(&mut self)
         ensures { self.new ≡ [] }
     {
@@ -102,7 +128,7 @@ impl Writer {
         requires { 4 ≤ length self.old }
         ensures { self.new ≡ spell.short count ++ drop 4 self.old }
     {
-        if self.len <= USUAL {
+        if self.far.is_empty() {
             put_count(&mut self.near, count);
         } else {
             put_count(&mut self.far, count);
@@ -113,10 +139,11 @@ impl Writer {
     pub fn as_slice(&self) -> &[u8]
         ensures { result.now ≡ self.now }
     {
-        if self.len <= USUAL {
-            &self.near[..self.len]
+        if self.far.is_empty() {
+            let near: &[u8] = &self.near;
+            &near[..self.len]
         } else {
-            &self.far
+            &self.far[..self.len]
         }
     }
 
@@ -124,6 +151,6 @@ impl Writer {
     pub fn len(&self) -> usize
         ensures { result ≡ length self.now }
     {
-        self.as_slice().len()
+        self.len
     }
 }
