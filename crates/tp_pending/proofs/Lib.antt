@@ -1,2 +1,2 @@
-pub mod ChainLemmas
+pub mod CursorLemmas
 pub mod FlagLemmas

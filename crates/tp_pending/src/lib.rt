@@ -1,5 +1,5 @@
-//! What is still pending among things that were numbered as they came: a flag for each, and a chain by index through
-//! those that are pending, in order.
+//! What is still pending among things that were numbered as they came: a flag for each, and a cursor at the least
+//! number that is pending.
 //!
 //! What is promised, with the contract that carries it:
 //!
@@ -10,13 +10,13 @@
 //! - How many are pending is counted (`Pending::count`), by going through all flags
 //! - What was posted last can be taken back (`Pending::cut`)
 //!
-//! The chain's nodes are the places of two lists of links, one each way, in a ring whose end is node 0; node k + 1 is
-//! that of the number k. The invariant says that both go round through the nodes of all numbers that are pending and
-//! no others. So posting, taking and telling the least make a constant number of changes and looks, whatever was taken
-//! in between: this is by their bodies, which have no loop; no contract counts them.
+//! The invariant says that no flag before the cursor is set, and that the cursor stands at one that is, or at the count
+//! of flags where none is. Numbers are posted in rising order and never set again, so the cursor only moves on, but for
+//! numbers that are taken back. So telling the least takes one look, posting pushes one flag, and taking a number
+//! clears one and, where it was the least, passes the flags up to the next that is set. Each flag is passed once in a
+//! run, so over a run the cost of a call is constant: this is by the bodies; no contract counts it.
 #![tactic(auto)]
 
-mod chain;
 mod pending;
 
 pub use pending::Pending;

@@ -1,36 +1,31 @@
-//! Flags, and the chain through those that are set.
-ghost use Rattle.std.specs.Prelude.{◌≡◌, ◌+◌, ◌-◌, ◌<◌, ◌≤◌, ◌==◌, ◌++◌, ◌∷◌, ℕ, [], length, slice_get, slice_set, take, true, false, IfOk, IfSome, OnOk, OnErr};
+//! Flags, and the cursor at the first that is set.
+ghost use Rattle.std.specs.Prelude.{◌≡◌, ◌<◌, ◌≤◌, ◌==◌, ◌++◌, ◌∷◌, ℕ, [], length, slice_get, slice_set, take, true, false, IfOk, IfSome, OnOk, OnErr};
 ghost use Rattle.std.specs.List.{list_any};
 ghost use Rattle.tp_pending.specs.Flags.{marked};
+ghost use Rattle.tp_pending.specs.mirrors.Cursor as mirror;
 
-use crate::chain::{end_alone, link, reach};
 use std::alloc::Global;
 use std::marker::Model;
 use tp_types::{List, NoMemory};
-
-/// No memory has room for more flags than this.
-const MOST: usize = 1 << 62;
 
 /// Which numbers are pending, of those that were posted.
 #[derive(Drop)]
 pub struct Pending {
     /// Of each number, whether it is pending.
     flags: List<bool>,
-    /// The node behind each node of the ring. Node 0 is its end, and node k + 1 is that of the number k.
-    after: List<usize>,
-    /// The node before each node of the ring.
-    before: List<usize>,
+    /// The least number that is pending, or how many were posted where none is.
+    first: usize,
 }
 
 impl Model for Pending {
     ghost use Rattle.std.specs.Prelude.{Bool, List};
-    ghost use Rattle.tp_pending.specs.mirrors.Chain.{IsChained};
+    ghost use Rattle.tp_pending.specs.mirrors.Cursor.{IsFirstFrom};
 
     ghost Value = { List Bool };
 
     ghost view = { λ p. p.flags };
 
-    ghost invariant = { λ p. IsChained p.flags p.after p.before };
+    ghost invariant = { λ p. IsFirstFrom 0 p.flags p.first };
 }
 
 impl Pending {
@@ -39,13 +34,7 @@ impl Pending {
         ensures { IfOk result (λ made. made ≡ []) }
     {
         let flags = List::from_vec(Vec::with_capacity(alloc, room)?);
-        let after = end_alone(alloc, room)?;
-        let before = end_alone(alloc, room)?;
-        Ok(Pending {
-            flags,
-            after,
-            before,
-        })
+        Ok(Pending { flags, first: 0 })
     }
 
     /// How many were posted.
@@ -65,13 +54,16 @@ impl Pending {
         }
     }
 
-    /// The least number that is pending, or None exactly where there is none. It looks at one node.
+    /// The least number that is pending, or None exactly where there is none. It looks at the cursor alone.
     pub fn first(&self) -> Option<usize>
         ensures value { result ≡ slice_get (marked 0 self.now) 0 }
         ensures posted { IfSome result (λ number. number < length self.now) }
     {
-        let node = link(&self.after, 0);
-        if node == 0 { None } else { Some(node - 1) }
+        if self.first < self.flags.len() {
+            Some(self.first)
+        } else {
+            None
+        }
     }
 
     /// How many are pending. It goes through all flags.
@@ -87,33 +79,17 @@ impl Pending {
         ensures ok { OnOk result (self.new ≡ self.old ++ true ∷ []) }
         ensures err { OnErr result (self.new ≡ self.old) }
     {
-        let count = self.flags.len();
-        if count >= MOST {
-            return Err(NoMemory);
-        }
-        let node = count + 1;
-        reach(&mut self.after, node)?;
-        reach(&mut self.before, node)?;
-        self.flags.push(true)?;
-        let last = link(&self.before, 0);
-        self.after.put(node, 0);
-        self.after.put(last, node);
-        self.before.put(node, last);
-        self.before.put(0, node);
-        Ok(())
+        self.flags.push(true)
     }
 
-    /// Takes a number: it is pending no more. Two links change.
+    /// Takes a number: it is pending no more. Where it was the first, the cursor goes on to the next that is pending.
+    /// It passes each flag once, so over a run the cost of a call is constant.
     pub fn take(&mut self, number: usize)
         ensures { self.new ≡ slice_set self.old number false }
     {
-        if self.is_pending(number) {
-            let node = number + 1;
-            let next = link(&self.after, node);
-            let last = link(&self.before, node);
-            self.after.put(last, next);
-            self.before.put(next, last);
-            self.flags.put(number, false);
+        self.flags.put(number, false);
+        if number == self.first {
+            self.first = first_from(self.flags.as_slice(), number);
         }
     }
 
@@ -121,25 +97,21 @@ impl Pending {
     pub fn cut(&mut self, count: usize)
         ensures { self.new ≡ take count self.old }
     {
-        let posted = self.flags.len();
-        if count < posted {
-            for _left in count..posted {
-                self.take_back();
-            }
-        }
+        self.flags.truncate(count);
+        self.first = self.first.min(count);
     }
+}
 
-    /// Takes back the last one that was posted, if there is one.
-    fn take_back(&mut self)
-        ensures { self.new ≡ take (length self.old - 1) self.old }
-    {
-        let posted = self.flags.len();
-        if 0 < posted {
-            let last = posted - 1;
-            self.take(last);
-            self.flags.truncate(last);
+/// The place of the first flag that is set from a place on, or the count of flags where none is.
+fn first_from(flags: &[bool], from: usize) -> usize
+    ensures { mirror.IsFirstFrom from flags.now result }
+{
+    for at in from..flags.len() {
+        if flags[at] {
+            return at;
         }
     }
+    flags.len()
 }
 
 /// How many flags are set.
