@@ -75,7 +75,7 @@ fn transaction(
 {
     Ok(Transaction {
         name: numbered(alloc, room, b"t", number)?,
-        subject: name(alloc, b"ann")?,
+        subject: name(b"ann")?,
         scheme: Scheme::Deferred,
         level: Level::View,
         rounds: 8,

@@ -11,10 +11,10 @@ use tp_types::{
 };
 
 /// A name of these bytes. They spell one.
-pub(crate) fn name(alloc: Global, bytes: &[u8]) -> Result<Name, NoMemory>
+pub(crate) fn name(bytes: &[u8]) -> Result<Name, NoMemory>
     ensures { IfOk result (λ name. name ≡ bytes.now) }
 {
-    match Name::of(alloc, bytes)? {
+    match Name::of(bytes) {
         Some(name) => Ok(name),
         None => Err(NoMemory),
     }
@@ -35,7 +35,7 @@ pub(crate) fn numbered(
     room.clear();
     room.extend_from_slice(letter)?;
     room.extend_from_slice(Buffer::new().format(number).as_bytes())?;
-    name(alloc, room.as_slice())
+    name(room.as_slice())
 }
 
 fn policy(alloc: Global) -> Result<Policy, NoMemory>
@@ -59,7 +59,7 @@ pub(crate) fn admin(alloc: Global) -> Result<Admin, NoMemory>
     library.push(policy(alloc)?)?;
     library.push(policy(alloc)?)?;
     Ok(Admin {
-        name: name(alloc, b"hr")?,
+        name: name(b"hr")?,
         library,
         opening: Version(2),
     })

@@ -327,9 +327,8 @@ const PLANS: &[Plan] = &[
 
 // ---- what the tables say, made
 
-fn named(rt: &(impl Abort + AllocGlobal), text: &str) -> Name {
-    let found = Name::of(rt.alloc(), text.as_bytes()).expect(rt, "memory for a name");
-    found.expect(rt, "a name")
+fn named(rt: &impl Abort, text: &str) -> Name {
+    Name::of(text.as_bytes()).expect(rt, "a name")
 }
 
 /// A list of the members of an array.

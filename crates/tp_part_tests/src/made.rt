@@ -8,9 +8,8 @@ pub fn list<T: Drop, const N: usize>(rt: &(impl Abort + AllocGlobal), members: [
     List::from_vec(made.ok().expect(rt, "memory for a list"))
 }
 
-pub fn name(rt: &(impl Abort + AllocGlobal), text: &str) -> Name {
-    let found = Name::of(rt.alloc(), text.as_bytes()).expect(rt, "memory for a name");
-    found.expect(rt, "a name")
+pub fn name(rt: &impl Abort, text: &str) -> Name {
+    Name::of(text.as_bytes()).expect(rt, "a name")
 }
 
 /// Asserts what is wanted of the case of this number.

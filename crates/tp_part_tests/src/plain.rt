@@ -86,8 +86,8 @@ const OTHERS: &[&[u8]] = &[
 ];
 
 /// Whether bytes are a name, which then has these bytes.
-fn is_itself(rt: &(impl Abort + AllocGlobal), bytes: &[u8]) -> bool {
-    match Name::of(rt.alloc(), bytes).expect(rt, "memory for a name") {
+fn is_itself(bytes: &[u8]) -> bool {
+    match Name::of(bytes) {
         None => false,
         Some(name) => name.bytes() == bytes,
     }
@@ -97,10 +97,10 @@ fn is_itself(rt: &(impl Abort + AllocGlobal), bytes: &[u8]) -> bool {
 fn spells_names(rt: HostRuntime) {
     for (at, text) in NAMES.iter().enumerate() {
         let bytes = text.as_bytes();
-        assert_case(&rt, at, is_name(bytes) && is_itself(&rt, bytes));
+        assert_case(&rt, at, is_name(bytes) && is_itself(bytes));
     }
     for (at, bytes) in OTHERS.iter().enumerate() {
-        assert_case(&rt, at, !is_name(bytes) && !is_itself(&rt, bytes));
+        assert_case(&rt, at, !is_name(bytes) && !is_itself(bytes));
     }
 }
 

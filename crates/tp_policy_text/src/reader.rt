@@ -2,7 +2,7 @@
 ghost use Rattle.std.specs.Prelude.{◌≡◌, ◌==◌, ◌&&◌, not, drop, codes};
 ghost use Rattle.tp_types.specs.Spelling.{IsName};
 ghost use Rattle.tp_policy_text.specs.Lexis as lexis;
-ghost use Rattle.tp_policy_text.specs.mirrors.Gives.{Gives, GivesOnly};
+ghost use Rattle.tp_policy_text.specs.mirrors.Gives.{Gives};
 ghost use Rattle.tp_policy_text.specs.mirrors.Readers as readers;
 ghost use Rattle.tp_policy_text.specs.mirrors.Readings.{mapped};
 ghost use Rattle.tp_policy_text.specs.mirrors.Scans as scans;
@@ -25,6 +25,17 @@ fn is_word_true(word: &[u8]) -> bool
     ensures { result ≡ readers.same_text word.now (codes "true") }
 {
     word == b"true".as_slice()
+}
+
+/// The name that the bytes spell.
+fn named(bytes: &[u8]) -> Name
+    requires { IsName bytes.now }
+    ensures { result ≡ bytes.now }
+{
+    match Name::of(bytes) {
+        None => unreachable!(),
+        Some(name) => name,
+    }
 }
 
 /// What an atom compares: an attribute that an issuer says.
@@ -132,17 +143,6 @@ impl<'a> Reader<'a> {
         front
     }
 
-    /// The name that the bytes spell.
-    fn named(&self, bytes: &[u8]) -> Result<Name, Halt>
-        requires { IsName bytes.now }
-        ensures { GivesOnly result bytes.now }
-    {
-        match Name::of(self.alloc, bytes)? {
-            None => unreachable!(),
-            Some(name) => Ok(name),
-        }
-    }
-
     /// Takes a name.
     #[tactic(auto, using(crate::proofs::Scans::name_reads, crate::proofs::Scans::front_is_name))]
     fn name(&mut self) -> Result<Name, Halt>
@@ -153,7 +153,7 @@ impl<'a> Reader<'a> {
             return Err(Halt::Stopped(Stop::Syntax));
         }
         self.skip_blanks();
-        self.named(bytes)
+        Ok(named(bytes))
     }
 
     /// Takes the digits of an integer, behind its sign.
@@ -192,13 +192,13 @@ impl<'a> Reader<'a> {
         if self.comes_behind(b'*', name) {
             self.forward();
             self.skip_blanks();
-            return Ok(Pattern::Prefix(self.named(name)?));
+            return Ok(Pattern::Prefix(named(name)));
         }
         if !self.ends(name) {
             return Err(Halt::Stopped(Stop::Syntax));
         }
         self.skip_blanks();
-        Ok(Pattern::Exact(self.named(name)?))
+        Ok(Pattern::Exact(named(name)))
     }
 
     /// Takes an attribute, behind its issuer and the dot.
@@ -214,8 +214,8 @@ impl<'a> Reader<'a> {
         }
         self.skip_blanks();
         Ok(Some(Claim {
-            issuer: self.named(issuer)?,
-            attr: self.named(attr)?,
+            issuer: named(issuer),
+            attr: named(attr),
         }))
     }
 

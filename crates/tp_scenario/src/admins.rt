@@ -91,7 +91,6 @@ fn admin_at<'a>(
         value,
     )?;
     let name = new_name_at(
-        alloc,
         Path::Field(Key::Admins, at, Key::Name),
         names,
         field(fields, Key::Name),

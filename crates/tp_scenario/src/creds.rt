@@ -26,10 +26,10 @@ fn is_text(value: Option<&Json>) -> bool
 }
 
 #[tactic(auto, unfolding(crate::specs::Creds::word_at))]
-fn word_at(alloc: Global, path: Path, value: Option<&Json>) -> Result<Value, WalkError>
+fn word_at(path: Path, value: Option<&Json>) -> Result<Value, WalkError>
     ensures { Gives result (creds.word_at path (option_map (λ v. view v.now) value.entry)) }
 {
-    let word = name_at(alloc, path, value)?;
+    let word = name_at(path, value)?;
     Ok(Value::Word(word))
 }
 
@@ -46,7 +46,7 @@ fn value_at(alloc: Global, path: Path, value: Option<&Json>) -> Result<Value, Wa
     ensures { Gives result (creds.value_at path (option_map (λ v. view v.now) value.entry)) }
 {
     if is_text(value) {
-        word_at(alloc, path, value)
+        word_at(path, value)
     } else {
         number_at(path, value)
     }
@@ -59,11 +59,11 @@ fn path_of(at: usize, key: Key) -> Path
 }
 
 /// The name at a key.
-fn name_of(alloc: Global, at: usize, key: Key, fields: &Json) -> Result<Name, WalkError>
+fn name_of(at: usize, key: Key, fields: &Json) -> Result<Name, WalkError>
     ensures { Gives result
         (values.name_at (Path.Field Key.Credentials at key) (values.field key (view fields.now))) }
 {
-    name_at(alloc, path_of(at, key), field(fields, key))
+    name_at(path_of(at, key), field(fields, key))
 }
 
 #[tactic(auto, unfolding(crate::specs::Creds::cred_at))]
@@ -82,15 +82,10 @@ fn cred_at<'a>(
         &[Key::From, Key::Until],
         value,
     )?;
-    let name = new_name_at(
-        alloc,
-        path_of(at, Key::Name),
-        names,
-        field(fields, Key::Name),
-    );
-    let issuer = name_of(alloc, at, Key::Issuer, fields);
-    let subject = name_of(alloc, at, Key::Subject, fields);
-    let attr = name_of(alloc, at, Key::Attr, fields);
+    let name = new_name_at(path_of(at, Key::Name), names, field(fields, Key::Name));
+    let issuer = name_of(at, Key::Issuer, fields);
+    let subject = name_of(at, Key::Subject, fields);
+    let attr = name_of(at, Key::Attr, fields);
     let value = value_at(alloc, path_of(at, Key::Value), field(fields, Key::Value));
     let interval = interval_at(at, fields);
     let named = both(both(name, issuer), both(subject, attr));

@@ -4,10 +4,11 @@ ghost use Rattle.tp_json.specs.View.{view, items_view, members_view};
 ghost use Rattle.tp_scenario.specs.Admins.{admin_name};
 ghost use Rattle.tp_scenario.specs.Servers as servers;
 ghost use Rattle.tp_scenario.specs.Values.{each, through};
+ghost use Rattle.tp_scenario.specs.declared.fault.WalkError.TheVariants as error;
 ghost use Rattle.tp_scenario.specs.declared.path.Key.TheVariants as Key;
 ghost use Rattle.tp_scenario.specs.declared.path.Path.TheVariants as Path;
 ghost use Rattle.tp_scenario.specs.mirrors.Entries.{entries_view, lent};
-ghost use Rattle.tp_scenario.specs.mirrors.Gives.{Gives, GivesNew, IsKeyError, IsMovedError};
+ghost use Rattle.tp_scenario.specs.mirrors.Gives.{Gives, GivesNew, IsMovedError};
 ghost use Rattle.tp_scenario.specs.mirrors.Parts as parts;
 
 use crate::fault::{Fault, Kind, WalkError, shape_at};
@@ -32,59 +33,56 @@ pub struct Served {
 
 /// Where a fault in the value of a key of `knows` stands.
 #[tactic(auto, unfolding(crate::specs::Servers::key_site))]
-fn key_site(alloc: Global, server: usize, key: &[u8]) -> Result<Site, NoMemory>
-    ensures { IfOk result (λ site. site ≡ servers.key_site server key.now) }
+fn key_site(server: usize, key: &[u8]) -> Site
+    ensures { result ≡ servers.key_site server key.now }
 {
-    match Name::of(alloc, key)? {
-        Some(admin) => Ok(Site::Known { server, admin }),
-        None => Ok(Site::At(Path::Field(Key::Servers, server, Key::Knows))),
+    match Name::of(key) {
+        Some(admin) => Site::Known { server, admin },
+        None => Site::At(Path::Field(Key::Servers, server, Key::Knows)),
     }
 }
 
 /// The error of a key of `knows`.
-fn key_error(alloc: Global, server: usize, key: &[u8], kind: Kind) -> WalkError
-    ensures { IsKeyError result kind (servers.key_site server key.now) }
+fn key_error(server: usize, key: &[u8], kind: Kind) -> WalkError
+    ensures { result ≡ error.Fault (record {
+      kind = kind;
+      site = servers.key_site server key.now;
+    }) }
 {
-    match key_site(alloc, server, key) {
-        Ok(site) => WalkError::Fault(Fault { kind, site }),
-        Err(NoMemory) => WalkError::NoMemory,
-    }
+    WalkError::Fault(Fault {
+        kind,
+        site: key_site(server, key),
+    })
 }
 
-fn moved_error(alloc: Global, server: usize, key: &[u8], error: WalkError) -> WalkError
+fn moved_error(server: usize, key: &[u8], error: WalkError) -> WalkError
     ensures { IsMovedError result error (servers.key_site server key.now) }
 {
     match error {
         WalkError::NoMemory => WalkError::NoMemory,
-        WalkError::Fault(fault) => key_error(alloc, server, key, fault.kind),
+        WalkError::Fault(fault) => key_error(server, key, fault.kind),
     }
 }
 
 /// The version at a key of `knows`.
 #[tactic(auto, unfolding(crate::specs::Servers::version_at))]
-fn version_at(
-    alloc: Global,
-    server: usize,
-    key: &[u8],
-    opening: u32,
-    value: &Json,
-) -> Result<Version, WalkError>
+fn version_at(server: usize, key: &[u8], opening: u32, value: &Json) -> Result<Version, WalkError>
     ensures { Gives result (servers.version_at server key.now opening (view value.now)) }
 {
     match count_at(Path::Whole, 1, u64::from(opening), Some(value)) {
         Ok(version) => Ok(Version(version as u32)),
-        Err(error) => Err(moved_error(alloc, server, key, error)),
+        Err(error) => Err(moved_error(server, key, error)),
     }
 }
 
 /// The administrator that a key of `knows` names.
 #[tactic(auto, unfolding(crate::specs::Servers::key_at))]
-fn key_at(alloc: Global, names: &Names, server: usize, key: &[u8]) -> Result<u32, WalkError>
+fn key_at(names: &Names, server: usize, key: &[u8]) -> Result<u32, WalkError>
     ensures { Gives result (servers.key_at names.now server key.now) }
 {
     match names.place_of(key) {
         Some(place) => Ok(place),
-        None => Err(key_error(alloc, server, key, Kind::Unknown)),
+        None => Err(key_error(server, key, Kind::Unknown)),
     }
 }
 
@@ -100,7 +98,6 @@ fn opening_of(admins: &[Admin], place: u32) -> u32
 /// A key of `knows` and its value, into the versions so far.
 #[tactic(auto, unfolding(crate::specs::Servers::put_known))]
 fn put_known(
-    alloc: Global,
     admins: &[Admin],
     names: &Names,
     server: usize,
@@ -112,9 +109,9 @@ fn put_known(
     ensures { GivesNew result versions.new
         (servers.put_known admins.now server versions.old key.now (view value.now)) }
 {
-    let place = key_at(alloc, names, server, key)?;
+    let place = key_at(names, server, key)?;
     let opening = opening_of(admins, place);
-    let version = version_at(alloc, server, key, opening, value)?;
+    let version = version_at(server, key, opening, value)?;
     versions.put(place as usize, version);
     Ok(())
 }
@@ -153,15 +150,7 @@ fn known_from(
     let mut versions = openings_of(alloc, admins)?;
     for entry in entries {
         let (key, value) = *entry;
-        put_known(
-            alloc,
-            admins,
-            names,
-            server,
-            &mut versions,
-            key.as_bytes(),
-            value,
-        )?;
+        put_known(admins, names, server, &mut versions, key.as_bytes(), value)?;
     }
     Ok(versions)
 }
@@ -224,7 +213,6 @@ fn knows_at(
 /// An item of a server, after those of these names.
 #[tactic(auto, unfolding(crate::specs::Servers::item_at))]
 fn item_at<'a>(
-    alloc: Global,
     admins: &Names<'a>,
     names: &mut Names<'a>,
     server: u32,
@@ -241,7 +229,6 @@ fn item_at<'a>(
         value,
     )?;
     let name = new_name_at(
-        alloc,
         path_of(server, at, Key::Name),
         names,
         field(fields, Key::Name),
@@ -311,7 +298,7 @@ fn each_item<'a>(
 {
     let before = made.len();
     for value in values {
-        let item = item_at(alloc, admins, names, server, made.len() - before, value)?;
+        let item = item_at(admins, names, server, made.len() - before, value)?;
         made.push(item)?;
     }
     Ok(())
@@ -400,7 +387,7 @@ fn server_in<'a>(
         value,
     )?;
     let path = Path::Field(Key::Servers, server, Key::Name);
-    let name = new_name_at(alloc, path, &mut names.servers, field(fields, Key::Name));
+    let name = new_name_at(path, &mut names.servers, field(fields, Key::Name));
     let knows = knows_at(
         alloc,
         admins,

@@ -213,7 +213,6 @@ fn queries_at(
 /// The name of a transaction, which no other transaction has and no server.
 #[tactic(auto, unfolding(crate::specs::Txns::txn_name_at))]
 fn txn_name_at<'a>(
-    alloc: Global,
     servers: &Names<'a>,
     others: &mut Names<'a>,
     at: usize,
@@ -224,7 +223,7 @@ fn txn_name_at<'a>(
     ensures named { IfOk result (λ name. others.new ≡ others.old ++ name ∷ []) }
 {
     let path = path_of(at, Key::Name);
-    let name = new_name_at(alloc, path, others, value)?;
+    let name = new_name_at(path, others, value)?;
     match servers.place_of(name.bytes()) {
         None => Ok(name),
         Some(_) => Err(range_at(path)),
@@ -249,17 +248,12 @@ fn txn_at<'a>(
         value,
     )?;
     let name = txn_name_at(
-        alloc,
         &names.servers,
         &mut names.txns,
         at,
         field(fields, Key::Name),
     );
-    let subject = name_at(
-        alloc,
-        path_of(at, Key::Subject),
-        field(fields, Key::Subject),
-    );
+    let subject = name_at(path_of(at, Key::Subject), field(fields, Key::Subject));
     let manner = manner_at(at, fields);
     let creds = presented_by(alloc, &names.creds, at, field(fields, Key::Credentials));
     let queries = queries_at(alloc, &names.items, at, field(fields, Key::Queries));

@@ -54,11 +54,11 @@ pub(crate) fn name_text<'a>(path: Path, value: Option<&Json<'a>>) -> Result<&'a 
 
 /// A name.
 #[tactic(auto, unfolding(crate::specs::Values::name_at))]
-pub(crate) fn name_at(alloc: Global, path: Path, value: Option<&Json>) -> Result<Name, WalkError>
+pub(crate) fn name_at(path: Path, value: Option<&Json>) -> Result<Name, WalkError>
     ensures { Gives result (values.name_at path (option_map (λ v. view v.now) value.entry)) }
 {
     let text = text_at(path, value)?;
-    match Name::of(alloc, text)? {
+    match Name::of(text) {
         None => Err(range_at(path)),
         Some(name) => Ok(name),
     }
@@ -67,7 +67,6 @@ pub(crate) fn name_at(alloc: Global, path: Path, value: Option<&Json>) -> Result
 /// A name that is declared, and is not among the names of its kind so far. It is added to them.
 #[tactic(auto, unfolding(crate::specs::Values::new_name_at, crate::specs::Values::name_at))]
 pub(crate) fn new_name_at<'a>(
-    alloc: Global,
     path: Path,
     names: &mut Names<'a>,
     value: Option<&Json<'a>>,
@@ -77,7 +76,7 @@ pub(crate) fn new_name_at<'a>(
     ensures named { IfOk result (λ name. names.new ≡ names.old ++ name ∷ []) }
 {
     let text = text_at(path, value)?;
-    match Name::of(alloc, text)? {
+    match Name::of(text) {
         None => Err(range_at(path)),
         Some(name) => {
             if names.declare(text)? {

@@ -8,9 +8,3 @@ abbrev pub Gives : {A : Type 0} → Result A Halt → List ℕ → Reading A →
 Gives (Ok a) left reading = reading ≡ read a left
 Gives (Err halt.NoMemory) left reading = Unit {0}
 Gives (Err (halt.Stopped why)) left reading = reading ≡ stopped why left
-
--- a value, unless memory was refused
-abbrev pub GivesOnly : {A : Type 0} → Result A Halt → A → Type 0
-GivesOnly (Ok a) wanted = a ≡ wanted
-GivesOnly (Err halt.NoMemory) wanted = Unit {0}
-GivesOnly (Err (halt.Stopped why)) wanted = ⊥

@@ -1,7 +1,6 @@
 -- What a step of the walk answers, beside what it is to give.
 use Rattle.std.specs.Prelude.{◌≡◌, Result, Ok, Err}
 use Rattle.tp_scenario.specs.declared.fault.Fault.{Fault}
-use Rattle.tp_scenario.specs.declared.fault.Kind.{Kind}
 use Rattle.tp_scenario.specs.declared.path.Site.{Site}
 use Rattle.tp_scenario.specs.declared.fault.WalkError.{WalkError}
 use Rattle.tp_scenario.specs.declared.fault.WalkError.TheVariants as error
@@ -20,14 +19,9 @@ abbrev pub Gives : {X : Type 0} → Result X WalkError → Result X Fault → Ty
 Gives (Ok x) walked = walked ≡ Ok x
 Gives (Err e) walked = IsWalkError e walked
 
--- the fault of this kind at this place, or memory ran out
-abbrev pub IsKeyError : WalkError → Kind → Site → Type 0
-IsKeyError (error.Fault fault) kind site = fault ≡ record { kind = kind; site = site }
-IsKeyError error.NoMemory kind site = Unit {0}
-
 -- the same error at another place
 abbrev pub IsMovedError : WalkError → WalkError → Site → Type 0
-IsMovedError result (error.Fault fault) site = IsKeyError result fault.kind site
+IsMovedError result (error.Fault fault) site = result ≡ error.Fault (record { kind = fault.kind; site = site })
 IsMovedError result error.NoMemory site = result ≡ error.NoMemory
 
 -- the value that a walk leaves behind a reference is what is to be given, whatever else it answers
