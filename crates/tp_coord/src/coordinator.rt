@@ -12,7 +12,7 @@ use tp_round::Round;
 use tp_scheme::{Gathered, Move, Point};
 use tp_types::{
     Actor, Body, Deed, Letter, List, Mail, NoMemory, Outcome, Place, Query, Reaction, Scenario,
-    ServerId, Staple, TxnId, both, ignored, none_for_each,
+    ServerId, Spare, Staple, TxnId, both, ignored, none_for_each,
 };
 
 /// What a round is over.
@@ -128,13 +128,18 @@ impl Coordinator {
     }
 
     /// What the submission of the transaction does. After NoMemory nothing is said of the state.
-    pub fn submit(&mut self, alloc: Global, scenario: &Scenario) -> Result<Reaction, NoMemory>
+    pub fn submit(
+        &mut self,
+        alloc: Global,
+        spare: &mut Spare<Letter>,
+        scenario: &Scenario,
+    ) -> Result<Reaction, NoMemory>
         ensures { IfOk result (λ reaction.
             Gives (row.submit_row scenario.now self.old) self.new reaction) }
     {
         match self.move_at(scenario, Point::Begun { query: 1 }) {
-            Move::SendQuery => self.sends_next(alloc, scenario, 1, None),
-            Move::Ask => self.asks_in(alloc, Phase::Stapling { query: 1 }),
+            Move::SendQuery => self.sends_next(alloc, spare, scenario, 1, None),
+            Move::Ask => self.asks_in(alloc, spare, Phase::Stapling { query: 1 }),
             _ => Ok(ignored(alloc)),
         }
     }
@@ -164,6 +169,7 @@ impl Coordinator {
     pub fn receive(
         &mut self,
         alloc: Global,
+        spare: &mut Spare<Letter>,
         scenario: &Scenario,
         mail: &Mail,
     ) -> Result<Reaction, NoMemory>
@@ -172,13 +178,13 @@ impl Coordinator {
     {
         let from = mail.letter.from;
         match &mail.letter.body {
-            Body::Done(done) => self.on_done(alloc, scenario, mail.sent, from, done),
-            Body::Tell(tell) => self.on_tell(alloc, scenario, mail.sent, tell),
-            Body::Verdicts(reply) => self.on_verdicts(alloc, scenario, from, reply),
-            Body::Vote(reply) => self.on_vote(alloc, scenario, from, reply),
-            Body::Newest(reply) => self.on_newest(alloc, scenario, mail.sent, reply),
+            Body::Done(done) => self.on_done(alloc, spare, scenario, mail.sent, from, done),
+            Body::Tell(tell) => self.on_tell(alloc, spare, scenario, mail.sent, tell),
+            Body::Verdicts(reply) => self.on_verdicts(alloc, spare, scenario, from, reply),
+            Body::Vote(reply) => self.on_vote(alloc, spare, scenario, from, reply),
+            Body::Newest(reply) => self.on_newest(alloc, spare, scenario, mail.sent, reply),
             Body::Ack(_) => self.on_ack(alloc, from),
-            Body::Inquire(_) => self.on_inquire(alloc, from),
+            Body::Inquire(_) => self.on_inquire(alloc, spare, from),
             _ => Ok(ignored(alloc)),
         }
     }

@@ -11,8 +11,8 @@ use std::alloc::Global;
 use std::mem;
 use tp_types::{
     Actor, Body, Cause, CommitRecord, DecideRequest, Decided, Decision, Denied, Letter, List,
-    NoMemory, Outcome, Reaction, Record, ServerId, TryClone, Verdict, both, ignored, nothing,
-    sent_alone,
+    NoMemory, Outcome, Reaction, Record, ServerId, Spare, TryClone, Verdict, both, ignored,
+    nothing, sent_alone,
 };
 
 impl Coordinator {
@@ -116,7 +116,12 @@ impl Coordinator {
     }
 
     /// A server that booted asks how the transaction was decided: once it was, the server is told again.
-    pub(crate) fn on_inquire(&self, alloc: Global, from: Actor) -> Result<Reaction, NoMemory>
+    pub(crate) fn on_inquire(
+        &self,
+        alloc: Global,
+        spare: &mut Spare<Letter>,
+        from: Actor,
+    ) -> Result<Reaction, NoMemory>
         ensures { IfOk result (λ reaction.
             Gives (row.on_inquire self.now self.now.phase from) self.now reaction) }
     {
@@ -127,7 +132,7 @@ impl Coordinator {
             Phase::Ending {
                 outcome,
                 awaited: _,
-            } => sent_alone(alloc, self.decide_letter(*outcome, server)),
+            } => sent_alone(alloc, spare, self.decide_letter(*outcome, server)),
             _ => Ok(ignored(alloc)),
         }
     }

@@ -7,7 +7,7 @@ use crate::coordinator::{Coordinator, Phase};
 use std::alloc::Global;
 use tp_model::{VIEW_ROUNDS, reads_master};
 use tp_scheme::{Move, Point, next_move};
-use tp_types::{Level, NoMemory, Reaction, Scenario, Transaction, ignored};
+use tp_types::{Letter, Level, NoMemory, Reaction, Scenario, Spare, Transaction, ignored};
 
 impl Coordinator {
     /// What the transaction does at a point, by the table of moves.
@@ -34,6 +34,7 @@ impl Coordinator {
     }
 
     /// What is done at a point that was passed, if anything is. It is asked before anything is gained.
+    #[inline(always)]
     pub(crate) fn move_made(&self, scenario: &Scenario, at: Point) -> Option<Move>
         ensures { result ≡ row.move_made scenario.now self.now at }
     {
@@ -51,6 +52,7 @@ impl Coordinator {
     pub(crate) fn makes(
         &mut self,
         alloc: Global,
+        spare: &mut Spare<Letter>,
         scenario: &Scenario,
         at: Point,
         next: Move,
@@ -60,14 +62,14 @@ impl Coordinator {
             Gives (row.makes scenario.now self.old at rounds next) self.new reaction) }
     {
         match next {
-            Move::SendQuery => self.sends_next(alloc, scenario, next_at(at), None),
+            Move::SendQuery => self.sends_next(alloc, spare, scenario, next_at(at), None),
             Move::Ask => {
                 let query = next_at(at);
-                self.asks_in(alloc, Phase::Stapling { query })
+                self.asks_in(alloc, spare, Phase::Stapling { query })
             }
-            Move::Probe => self.probes(alloc, probing_at(at)),
-            Move::Validate => self.validates(alloc, scenario, number_at(at)),
-            Move::CommitRounds => self.begins_rounds(alloc, scenario),
+            Move::Probe => self.probes(alloc, spare, probing_at(at)),
+            Move::Validate => self.validates(alloc, spare, scenario, number_at(at)),
+            Move::CommitRounds => self.begins_rounds(alloc, spare, scenario),
             Move::Votes => self.asks_votes(alloc),
             Move::Decide => self.commits(alloc, rounds),
             Move::Following => Ok(ignored(alloc)),

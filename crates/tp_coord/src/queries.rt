@@ -15,7 +15,7 @@ use tp_model::{deed_of, is_global, item_of};
 use tp_scheme::Point;
 use tp_types::{
     Actor, Answer, Body, Cause, Died, DoneReply, Instance, Letter, List, NoMemory, Place, Query,
-    QueryRequest, Reaction, Scenario, Scheme, ServerId, Staple, TryClone, Verdict, Version, both,
+    QueryRequest, Reaction, Scenario, Scheme, ServerId, Spare, Staple, TryClone, Verdict, Version,
     ignored, sent_alone,
 };
 
@@ -24,6 +24,7 @@ impl Coordinator {
     pub(crate) fn sends_next(
         &mut self,
         alloc: Global,
+        spare: &mut Spare<Letter>,
         scenario: &Scenario,
         number: u32,
         staple: Option<Staple>,
@@ -36,22 +37,17 @@ impl Coordinator {
     {
         match self.home_of(scenario, number) {
             None => Ok(ignored(alloc)),
-            Some(server) => self.sends_query(alloc, scenario, number, staple, server),
+            Some(server) => self.sends_query(alloc, spare, scenario, number, staple, server),
         }
     }
 
     /// The value that a query is asked with: a write's sum over what was read.
-    pub(crate) fn value_of(
-        &self,
-        alloc: Global,
-        scenario: &Scenario,
-        number: u32,
-    ) -> Result<Option<i128>, NoMemory>
-        ensures { IfOk result (λ value. value ≡ row.value_of scenario.now self.now number) }
+    pub(crate) fn value_of(&self, scenario: &Scenario, number: u32) -> Option<i128>
+        ensures { result ≡ row.value_of scenario.now self.now number }
     {
         match scenario.txns.get(self.txn.0 as usize) {
-            Some(txn) => asked_value(alloc, txn, self.deeds.as_slice(), number),
-            None => Ok(None),
+            Some(txn) => asked_value(txn, self.deeds.as_slice(), number),
+            None => None,
         }
     }
 
@@ -71,6 +67,7 @@ impl Coordinator {
     fn sends_query(
         &mut self,
         alloc: Global,
+        spare: &mut Spare<Letter>,
         scenario: &Scenario,
         number: u32,
         staple: Option<Staple>,
@@ -85,7 +82,7 @@ impl Coordinator {
             query: number,
             staple,
         });
-        sent_alone(alloc, letter)
+        sent_alone(alloc, spare, letter)
     }
 
     pub(crate) fn query_letter(
@@ -101,15 +98,14 @@ impl Coordinator {
             letter ≡ row.request self.now server
             (body.Query (row.query_request scenario.now self.now turn server number staple.now))) }
     {
-        let value = self.value_of(alloc, scenario, number);
-        let (value, staple) = both(value, staple.try_clone(alloc))?;
+        let staple = staple.try_clone(alloc)?;
         let query = QueryRequest {
             txn: self.txn,
             turn,
             query: number,
             age: self.age,
             epoch: self.epoch_told(server),
-            value,
+            value: self.value_of(scenario, number),
             staple,
             pin: self.pin_for(scenario, number),
         };
@@ -119,6 +115,7 @@ impl Coordinator {
     pub(crate) fn on_done(
         &mut self,
         alloc: Global,
+        spare: &mut Spare<Letter>,
         scenario: &Scenario,
         sent: Place,
         from: Actor,
@@ -137,7 +134,7 @@ impl Coordinator {
         };
         match server_of(scenario, query) {
             Some(server) if is_from(from, server) => {
-                self.answered(alloc, scenario, sent, server, done, query)
+                self.answered(alloc, spare, scenario, sent, server, done, query)
             }
             _ => Ok(ignored(alloc)),
         }
@@ -155,6 +152,7 @@ impl Coordinator {
     fn answered(
         &mut self,
         alloc: Global,
+        spare: &mut Spare<Letter>,
         scenario: &Scenario,
         sent: Place,
         server: ServerId,
@@ -170,7 +168,7 @@ impl Coordinator {
     {
         match &done.answer {
             Answer::Ran { value, verdict } => {
-                self.runs_on(alloc, scenario, server, done, query, *value, verdict)
+                self.runs_on(alloc, spare, scenario, server, done, query, *value, verdict)
             }
             Answer::Denied { verdict } => self.aborts(alloc, Cause::Denied(denied_by(verdict))),
             Answer::Newer(newer) => self.aborts(alloc, Cause::Newer(*newer)),
@@ -191,6 +189,7 @@ impl Coordinator {
     fn runs_on(
         &mut self,
         alloc: Global,
+        spare: &mut Spare<Letter>,
         scenario: &Scenario,
         server: ServerId,
         done: &DoneReply,
@@ -212,7 +211,7 @@ impl Coordinator {
         };
         self.ran(alloc, server, done, query, value)?;
         self.keeps_proof(alloc, scenario, verdict)?;
-        self.makes(alloc, scenario, at, next, 0)
+        self.makes(alloc, spare, scenario, at, next, 0)
     }
 
     /// What a query did is kept, and the epoch of its server.

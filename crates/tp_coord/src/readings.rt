@@ -8,7 +8,7 @@ use std::alloc::Global;
 use tp_scheme::Point;
 use tp_types::{
     Actor, Body, Letter, NewestReply, NoMemory, Place, ProbeRequest, Reaction, Reading, Scenario,
-    TryClone, ignored, sent_alone,
+    Spare, TryClone, ignored, sent_alone,
 };
 
 impl Coordinator {
@@ -26,17 +26,23 @@ impl Coordinator {
     }
 
     /// The master is asked for the newest versions, which the phase awaits.
-    pub(crate) fn probes(&mut self, alloc: Global, phase: Phase) -> Result<Reaction, NoMemory>
+    pub(crate) fn probes(
+        &mut self,
+        alloc: Global,
+        spare: &mut Spare<Letter>,
+        phase: Phase,
+    ) -> Result<Reaction, NoMemory>
         ensures { IfOk result (λ reaction. Gives (row.probes self.old phase) self.new reaction) }
     {
         let letter = self.probe_letter(self.next_turn());
         self.awaits(phase);
-        sent_alone(alloc, letter)
+        sent_alone(alloc, spare, letter)
     }
 
     pub(crate) fn on_newest(
         &mut self,
         alloc: Global,
+        spare: &mut Spare<Letter>,
         scenario: &Scenario,
         sent: Place,
         reply: &NewestReply,
@@ -49,7 +55,7 @@ impl Coordinator {
             return Ok(ignored(alloc));
         }
         let reading = reading_of(alloc, sent, reply)?;
-        let reaction = self.on_reading(alloc, scenario, &reading);
+        let reaction = self.on_reading(alloc, spare, scenario, &reading);
         drop(reading);
         reaction
     }
@@ -58,6 +64,7 @@ impl Coordinator {
     fn on_reading(
         &mut self,
         alloc: Global,
+        spare: &mut Spare<Letter>,
         scenario: &Scenario,
         reading: &Reading,
     ) -> Result<Reaction, NoMemory>
@@ -68,10 +75,16 @@ impl Coordinator {
         match &self.phase {
             Phase::Probing { query } => {
                 let at = Point::Read { query: *query };
-                self.proofs_read(alloc, scenario, at, reading)
+                self.proofs_read(alloc, spare, scenario, at, reading)
             }
-            Phase::VoteProbing => self.proofs_read(alloc, scenario, Point::VoteRead, reading),
-            _ => self.round_read(alloc, scenario, reading),
+            Phase::VoteProbing => self.proofs_read(
+                alloc,
+                spare,
+                scenario,
+                Point::VoteRead,
+                reading,
+            ),
+            _ => self.round_read(alloc, spare, scenario, reading),
         }
     }
 
@@ -79,6 +92,7 @@ impl Coordinator {
     fn round_read(
         &mut self,
         alloc: Global,
+        spare: &mut Spare<Letter>,
         scenario: &Scenario,
         reading: &Reading,
     ) -> Result<Reaction, NoMemory>
@@ -89,7 +103,7 @@ impl Coordinator {
         match &mut self.phase {
             Phase::Reading { span: _, round } => {
                 let answer = round.judge(alloc, Some(reading))?;
-                self.follows(alloc, scenario, answer, Some(reading))
+                self.follows(alloc, spare, scenario, answer, Some(reading))
             }
             _ => Ok(ignored(alloc)),
         }
@@ -100,6 +114,7 @@ impl Coordinator {
     fn proofs_read(
         &mut self,
         alloc: Global,
+        spare: &mut Spare<Letter>,
         scenario: &Scenario,
         at: Point,
         reading: &Reading,
@@ -114,7 +129,7 @@ impl Coordinator {
             return Ok(ignored(alloc));
         };
         self.gathered.close(alloc, Some(reading.place))?;
-        self.makes(alloc, scenario, at, next, 0)
+        self.makes(alloc, spare, scenario, at, next, 0)
     }
 }
 

@@ -21,8 +21,8 @@ use tp_round::{Judged, Round, Wanted};
 use tp_scheme::Point;
 use tp_types::{
     Actor, AdminId, AskRequest, Body, Cause, Instance, Letter, List, NoMemory, Place,
-    PrepareRequest, Query, Reaction, Reading, Scenario, ServerId, Staple, TellReply, Transaction,
-    TryClone, ValidateRequest, Verdict, Version, ignored, nothing, sent_alone,
+    PrepareRequest, Query, Reaction, Reading, Scenario, ServerId, Spare, Staple, TellReply,
+    Transaction, TryClone, ValidateRequest, Verdict, Version, ignored, nothing, sent_alone,
 };
 
 impl Coordinator {
@@ -30,19 +30,21 @@ impl Coordinator {
     pub(crate) fn begins_rounds(
         &mut self,
         alloc: Global,
+        spare: &mut Spare<Letter>,
         scenario: &Scenario,
     ) -> Result<Reaction, NoMemory>
         ensures { IfOk result (λ reaction.
             Gives (row.asks self.old Span.Commit (row.commit_round scenario.now self.old)) self.new reaction) }
     {
         let round = self.round_of(alloc, scenario, self.servers.as_slice())?;
-        self.asks(alloc, Span::Commit, round)
+        self.asks(alloc, spare, Span::Commit, round)
     }
 
     /// A query ran, and all up to it are to be evaluated: the first round, of their servers.
     pub(crate) fn validates(
         &mut self,
         alloc: Global,
+        spare: &mut Spare<Letter>,
         scenario: &Scenario,
         query: u32,
     ) -> Result<Reaction, NoMemory>
@@ -54,7 +56,7 @@ impl Coordinator {
     {
         let servers = self.servers_upto(alloc, scenario, query)?;
         let round = self.round_of(alloc, scenario, servers.as_slice())?;
-        self.asks(alloc, Span::Validate { query }, round)
+        self.asks(alloc, spare, Span::Validate { query }, round)
     }
 
     /// A first round of these servers.
@@ -97,21 +99,27 @@ impl Coordinator {
     pub(crate) fn asks(
         &mut self,
         alloc: Global,
+        spare: &mut Spare<Letter>,
         span: Span,
         round: Round,
     ) -> Result<Reaction, NoMemory>
         ensures { IfOk result (λ reaction. Gives (row.asks self.old span round) self.new reaction) }
     {
-        self.asks_in(alloc, Phase::Asking { span, round })
+        self.asks_in(alloc, spare, Phase::Asking { span, round })
     }
 
     /// The authority is asked, for what the phase awaits.
-    pub(crate) fn asks_in(&mut self, alloc: Global, phase: Phase) -> Result<Reaction, NoMemory>
+    pub(crate) fn asks_in(
+        &mut self,
+        alloc: Global,
+        spare: &mut Spare<Letter>,
+        phase: Phase,
+    ) -> Result<Reaction, NoMemory>
         ensures { IfOk result (λ reaction. Gives (row.asks_in self.old phase) self.new reaction) }
     {
         let letter = self.ask_letter(self.next_turn());
         self.awaits(phase);
-        sent_alone(alloc, letter)
+        sent_alone(alloc, spare, letter)
     }
 
     pub(crate) fn ask_letter(&self, turn: u32) -> Letter
@@ -193,6 +201,7 @@ impl Coordinator {
     pub(crate) fn on_tell(
         &mut self,
         alloc: Global,
+        spare: &mut Spare<Letter>,
         scenario: &Scenario,
         sent: Place,
         tell: &TellReply,
@@ -205,7 +214,7 @@ impl Coordinator {
         }
         if let Phase::Stapling { query } = self.phase {
             let staple = staple_of(alloc, sent, tell)?;
-            return self.sends_next(alloc, scenario, query, Some(staple));
+            return self.sends_next(alloc, spare, scenario, query, Some(staple));
         }
         match mem::replace(&mut self.phase, Phase::Idle) {
             Phase::Asking { span, round } => {
@@ -246,6 +255,7 @@ impl Coordinator {
     pub(crate) fn counted(
         &mut self,
         alloc: Global,
+        spare: &mut Spare<Letter>,
         scenario: &Scenario,
     ) -> Result<Reaction, NoMemory>
         ensures { IfOk result (λ reaction.
@@ -257,17 +267,21 @@ impl Coordinator {
                     return Ok(nothing(alloc));
                 }
                 if round.reads {
-                    return self.reads_after(alloc);
+                    return self.reads_after(alloc, spare);
                 }
                 let answer = round.judge(alloc, None)?;
-                self.follows(alloc, scenario, answer, None)
+                self.follows(alloc, spare, scenario, answer, None)
             }
             _ => Ok(ignored(alloc)),
         }
     }
 
     /// All of a round have replied: the master is asked.
-    fn reads_after(&mut self, alloc: Global) -> Result<Reaction, NoMemory>
+    fn reads_after(
+        &mut self,
+        alloc: Global,
+        spare: &mut Spare<Letter>,
+    ) -> Result<Reaction, NoMemory>
         ensures { IfOk result (λ reaction.
             Gives (place.reads_after self.old self.old.phase) self.new reaction) }
     {
@@ -276,7 +290,7 @@ impl Coordinator {
                 span,
                 round,
                 staple: _,
-            } => self.probes(alloc, Phase::Reading { span, round }),
+            } => self.probes(alloc, spare, Phase::Reading { span, round }),
             other => {
                 self.enters(other);
                 Ok(ignored(alloc))
@@ -288,6 +302,7 @@ impl Coordinator {
     pub(crate) fn follows(
         &mut self,
         alloc: Global,
+        spare: &mut Spare<Letter>,
         scenario: &Scenario,
         answer: Judged,
         reading: Option<&Reading>,
@@ -300,14 +315,14 @@ impl Coordinator {
         match answer {
             Judged::Waiting => Ok(nothing(alloc)),
             Judged::Spent(mets) => self.aborts(alloc, Cause::Rounds(mets)),
-            Judged::Update(_) => self.asks_anew(alloc),
+            Judged::Update(_) => self.asks_anew(alloc, spare),
             Judged::False { verdict } => self.aborts(alloc, Cause::Denied(denied_by(&verdict))),
-            Judged::AllTrue => self.agrees(alloc, scenario, reading),
+            Judged::AllTrue => self.agrees(alloc, spare, scenario, reading),
         }
     }
 
     /// An update has begun the next round: the authority is asked anew.
-    fn asks_anew(&mut self, alloc: Global) -> Result<Reaction, NoMemory>
+    fn asks_anew(&mut self, alloc: Global, spare: &mut Spare<Letter>) -> Result<Reaction, NoMemory>
         ensures { IfOk result (λ reaction.
             Gives (place.asks_anew self.old self.old.phase) self.new reaction) }
     {
@@ -316,8 +331,8 @@ impl Coordinator {
                 span,
                 round,
                 staple: _,
-            } => self.asks(alloc, span, round),
-            Phase::Reading { span, round } => self.asks(alloc, span, round),
+            } => self.asks(alloc, spare, span, round),
+            Phase::Reading { span, round } => self.asks(alloc, spare, span, round),
             other => {
                 self.enters(other);
                 Ok(ignored(alloc))
@@ -330,6 +345,7 @@ impl Coordinator {
     fn agrees(
         &mut self,
         alloc: Global,
+        spare: &mut Spare<Letter>,
         scenario: &Scenario,
         reading: Option<&Reading>,
     ) -> Result<Reaction, NoMemory>
@@ -346,7 +362,7 @@ impl Coordinator {
             return Ok(ignored(alloc));
         };
         self.closes_round(alloc, reading)?;
-        self.makes(alloc, scenario, at, next, rounds)
+        self.makes(alloc, spare, scenario, at, next, rounds)
     }
 
     /// The proofs of the round that is awaited are taken out of it, and are an instance.

@@ -1,32 +1,44 @@
 //! The value that a query asks for: a write's sum over what the reads before it have kept in registers.
-ghost use Rattle.std.specs.Prelude.{◌≡◌, IfOk, OnOk};
+ghost use Rattle.std.specs.Prelude.{◌≡◌, slice_set};
 ghost use Rattle.tp_coord.specs.Sums as sums;
 ghost use Rattle.tp_model.specs.SerialRun as run;
 
-use std::alloc::Global;
 use tp_model::{REGISTER_PLACES, query_at};
-use tp_types::{Deed, List, NoMemory, Operand, Query, Term, Transaction};
+use tp_types::{Deed, List, Operand, Query, Term, Transaction};
 
-fn cleared_registers(alloc: Global) -> Result<List<i128>, NoMemory>
-    ensures { IfOk result (λ made. made ≡ run.cleared_registers) }
+/// A transaction's registers, by number. They stand in the value itself, so that a sum takes no memory.
+type Registers = [i128; REGISTER_PLACES];
+
+fn cleared_registers() -> Registers
+    ensures { result ≡ run.cleared_registers }
 {
-    Ok(List::from_vec(vec![in alloc; 0; REGISTER_PLACES]?))
+    [0; REGISTER_PLACES]
+}
+
+/// Keeps what was read. Where there is no such register nothing is kept.
+fn keep(registers: &mut Registers, into: u32, value: i128)
+    ensures { registers.new ≡ slice_set registers.old into value }
+{
+    let into = into as usize;
+    if into < REGISTER_PLACES {
+        registers[into] = value;
+    }
 }
 
 /// The registers once a transaction's first queries have done these deeds.
-fn registers_after(alloc: Global, txn: &Transaction, deeds: &[Deed]) -> Result<List<i128>, NoMemory>
-    ensures { IfOk result (λ made. made ≡ sums.registers_after txn.now deeds.now) }
+fn registers_after(txn: &Transaction, deeds: &[Deed]) -> Registers
+    ensures { result ≡ sums.registers_after txn.now deeds.now }
 {
-    let mut registers = cleared_registers(alloc)?;
+    let mut registers = cleared_registers();
     for (query, deed) in txn.queries.as_slice().iter().zip(deeds) {
         if let Query::Read { into, .. } = query {
-            registers.put(*into as usize, deed.value);
+            keep(&mut registers, *into, deed.value);
         }
     }
-    Ok(registers)
+    registers
 }
 
-fn operand_in(registers: &List<i128>, operand: &Operand) -> i128
+fn operand_in(registers: &Registers, operand: &Operand) -> i128
     ensures { result ≡ run.operand_in registers.now operand.now }
 {
     match operand {
@@ -36,7 +48,7 @@ fn operand_in(registers: &List<i128>, operand: &Operand) -> i128
 }
 
 /// One step of a sum. It stops at the ends of an i128.
-fn add_clamped(registers: &List<i128>, total: i128, term: &Term) -> i128
+fn add_clamped(registers: &Registers, total: i128, term: &Term) -> i128
     ensures { result ≡ sums.add_clamped registers.now total term.now }
 {
     let operand = operand_in(registers, &term.operand);
@@ -47,7 +59,7 @@ fn add_clamped(registers: &List<i128>, total: i128, term: &Term) -> i128
     }
 }
 
-fn clamped_sum(registers: &List<i128>, expr: &List<Term>) -> i128
+fn clamped_sum(registers: &Registers, expr: &List<Term>) -> i128
     ensures { result ≡ sums.clamped_sum registers.now expr.now }
 {
     let mut total = 0;
@@ -59,19 +71,14 @@ fn clamped_sum(registers: &List<i128>, expr: &List<Term>) -> i128
 
 /// The value that the transaction's query of this number is asked with, once the queries before it have done these deeds: the sum of a
 /// write. None for a read, and where there is no such query.
-pub(crate) fn asked_value(
-    alloc: Global,
-    txn: &Transaction,
-    deeds: &[Deed],
-    number: u32,
-) -> Result<Option<i128>, NoMemory>
-    ensures { IfOk result (λ value. value ≡ sums.asked_value txn.now deeds.now number) }
+pub(crate) fn asked_value(txn: &Transaction, deeds: &[Deed], number: u32) -> Option<i128>
+    ensures { result ≡ sums.asked_value txn.now deeds.now number }
 {
     match query_at(txn, number) {
         Some(Query::Write { expr, .. }) => {
-            let registers = registers_after(alloc, txn, deeds)?;
-            Ok(Some(clamped_sum(&registers, expr)))
+            let registers = registers_after(txn, deeds);
+            Some(clamped_sum(&registers, expr))
         }
-        _ => Ok(None),
+        _ => None,
     }
 }

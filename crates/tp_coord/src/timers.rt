@@ -6,31 +6,43 @@ ghost use Rattle.tp_coord.specs.Row as row;
 
 use crate::coordinator::{Coordinator, Phase};
 use std::alloc::Global;
-use tp_types::{Letter, List, NoMemory, Reaction, Scenario, Staple};
+use tp_types::{Letter, List, NoMemory, Reaction, Scenario, Spare, Staple};
 
 impl Coordinator {
     /// Sends the outstanding request again, to each from whom a reply is awaited. Before the submission, and when all servers
     /// have acknowledged the end, nothing is sent.
-    pub fn timer(&self, alloc: Global, scenario: &Scenario) -> Result<Reaction, NoMemory>
+    pub fn timer(
+        &self,
+        alloc: Global,
+        spare: &mut Spare<Letter>,
+        scenario: &Scenario,
+    ) -> Result<Reaction, NoMemory>
         ensures { IfOk result (λ reaction.
             Gives (row.timer_row scenario.now self.now) self.now reaction) }
     {
         Ok(Reaction {
             append: None,
-            letters: self.repeats(alloc, scenario)?,
+            letters: self.repeats(alloc, spare, scenario)?,
         })
     }
 
-    fn repeats(&self, alloc: Global, scenario: &Scenario) -> Result<List<Letter>, NoMemory>
+    fn repeats(
+        &self,
+        alloc: Global,
+        spare: &mut Spare<Letter>,
+        scenario: &Scenario,
+    ) -> Result<List<Letter>, NoMemory>
         ensures { IfOk result (λ letters.
             letters ≡ row.repeats scenario.now self.now self.now.phase) }
     {
         match &self.phase {
             // nothing is outstanding before the submission
             Phase::Idle => Ok(List::new(alloc)),
-            Phase::Querying { query, staple } => self.query_again(alloc, scenario, *query, staple),
+            Phase::Querying { query, staple } => self.query_again(
+                alloc, spare, scenario, *query, staple,
+            ),
             Phase::Stapling { .. } | Phase::Asking { .. } => {
-                List::of_one(alloc, self.ask_letter(self.turn))
+                spare.list_of(alloc, self.ask_letter(self.turn))
             }
             Phase::Checking {
                 span,
@@ -38,7 +50,7 @@ impl Coordinator {
                 staple,
             } => self.round_letters(alloc, *span, self.turn, round, staple),
             Phase::Probing { .. } | Phase::Reading { .. } | Phase::VoteProbing => {
-                List::of_one(alloc, self.probe_letter(self.turn))
+                spare.list_of(alloc, self.probe_letter(self.turn))
             }
             Phase::Voting { awaited } => self.vote_letters(alloc, self.turn, awaited.as_slice()),
             Phase::Ending { outcome, awaited } => {
@@ -50,6 +62,7 @@ impl Coordinator {
     fn query_again(
         &self,
         alloc: Global,
+        spare: &mut Spare<Letter>,
         scenario: &Scenario,
         number: u32,
         staple: &Option<Staple>,
@@ -63,7 +76,7 @@ impl Coordinator {
             None => Ok(List::new(alloc)),
             Some(server) => {
                 let letter = self.query_letter(alloc, scenario, self.turn, server, number, staple)?;
-                List::of_one(alloc, letter)
+                spare.list_of(alloc, letter)
             }
         }
     }

@@ -12,7 +12,7 @@ use std::mem;
 use tp_scheme::Point;
 use tp_types::{
     Actor, Body, Cause, Letter, List, No, NoMemory, OutOfRange, PrepareRequest, Reaction, Scenario,
-    ServerId, TryClone, Verdict, VerdictsReply, Vote, VoteReply, both, ignored, nothing,
+    ServerId, Spare, TryClone, Verdict, VerdictsReply, Vote, VoteReply, both, ignored, nothing,
 };
 
 impl Coordinator {
@@ -62,6 +62,7 @@ impl Coordinator {
     pub(crate) fn on_vote(
         &mut self,
         alloc: Global,
+        spare: &mut Spare<Letter>,
         scenario: &Scenario,
         from: Actor,
         reply: &VoteReply,
@@ -77,7 +78,7 @@ impl Coordinator {
             return Ok(ignored(alloc));
         }
         match &reply.vote {
-            Vote::Yes(verdicts) => self.on_yes(alloc, scenario, server, verdicts),
+            Vote::Yes(verdicts) => self.on_yes(alloc, spare, scenario, server, verdicts),
             Vote::No(why) => self.on_no(alloc, server, *why),
         }
     }
@@ -86,6 +87,7 @@ impl Coordinator {
     fn on_yes(
         &mut self,
         alloc: Global,
+        spare: &mut Spare<Letter>,
         scenario: &Scenario,
         server: ServerId,
         verdicts: &List<Verdict>,
@@ -102,11 +104,11 @@ impl Coordinator {
                 staple: _,
             } => {
                 counts(alloc, round, server, verdicts)?;
-                self.counted(alloc, scenario)
+                self.counted(alloc, spare, scenario)
             }
             Phase::Voting { awaited } => {
                 let left = without(mem::replace(awaited, List::new(alloc)), server);
-                self.votes_left(alloc, scenario, left)
+                self.votes_left(alloc, spare, scenario, left)
             }
             _ => Ok(ignored(alloc)),
         }
@@ -116,6 +118,7 @@ impl Coordinator {
     fn votes_left(
         &mut self,
         alloc: Global,
+        spare: &mut Spare<Letter>,
         scenario: &Scenario,
         awaited: List<ServerId>,
     ) -> Result<Reaction, NoMemory>
@@ -129,7 +132,7 @@ impl Coordinator {
         }
         match self.move_made(scenario, Point::Voted) {
             None => Ok(ignored(alloc)),
-            Some(next) => self.makes(alloc, scenario, Point::Voted, next, 0),
+            Some(next) => self.makes(alloc, spare, scenario, Point::Voted, next, 0),
         }
     }
 
@@ -153,6 +156,7 @@ impl Coordinator {
     pub(crate) fn on_verdicts(
         &mut self,
         alloc: Global,
+        spare: &mut Spare<Letter>,
         scenario: &Scenario,
         from: Actor,
         reply: &VerdictsReply,
@@ -169,7 +173,7 @@ impl Coordinator {
         }
         match &reply.verdicts {
             None => self.aborts(alloc, Cause::Restarted { server }),
-            Some(verdicts) => self.on_proofs(alloc, scenario, server, verdicts),
+            Some(verdicts) => self.on_proofs(alloc, spare, scenario, server, verdicts),
         }
     }
 
@@ -177,6 +181,7 @@ impl Coordinator {
     fn on_proofs(
         &mut self,
         alloc: Global,
+        spare: &mut Spare<Letter>,
         scenario: &Scenario,
         server: ServerId,
         verdicts: &List<Verdict>,
@@ -193,7 +198,7 @@ impl Coordinator {
                 staple: _,
             } => {
                 counts(alloc, round, server, verdicts)?;
-                self.counted(alloc, scenario)
+                self.counted(alloc, spare, scenario)
             }
             _ => Ok(ignored(alloc)),
         }

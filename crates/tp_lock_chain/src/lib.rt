@@ -20,15 +20,15 @@
 //! owner or by "many", of all entries and of those that write. So its steps do not grow with the other items or owners,
 //! nor with the square of a list.
 //!
-//! *Beside the plain table.* Instructions for one turn, plain and chained (callgrind, LLVM build): 128 owners that
-//! want to write one item, each of which waits, and then leave one after another, 685,063 and 944,293; 16 such
-//! owners, 17,674 and 22,980; one owner with 16 locks among 1,024 items, and its release, 4,434 and 8,358; one lock
-//! and its release, 480 and 556. The plain table is faster in all of these, and so for what a scenario can be: it
-//! keeps the items of each owner too, so that neither table looks at other items; entries that lie side by side are
-//! read faster than nodes by their links; and in most lists the entry that one waits for stands near the front, where
-//! the plain table finds it at once. The chains win where that is not so: with 64 readers, a writer that waits for
-//! them, and 63 readers that wait for it, a turn takes 1,502,873 and 868,743. What they give is the bound, which is
-//! proved of every table; of the plain one none is.
+//! *Beside the plain table.* Thousands of instructions for a turn at a table that was used before, plain and chained
+//! (callgrind, on a build by LLVM without the tests that the proofs rule out): 128 owners that want to write one item,
+//! each of which waits, and then leave one after another, 638 and 872; 16 such owners, 16.2 and 21.9; one owner with 16
+//! locks among 1,024 items, and its release, 4.0 and 9.9; one lock and its release, 0.42 and 0.67. The plain table is
+//! faster in all of these, and so for what a scenario can be: it keeps the items of each owner too, so that neither
+//! table looks at other items; entries that lie side by side are read faster than nodes by their links; and in most
+//! lists the entry that one waits for stands near the front, where the plain table finds it at once. The chains win
+//! where that is not so: with 64 readers, a writer that waits for them, and 63 readers that wait for it, a turn takes
+//! 1,475 and 793. What they give is the bound, which is proved of every table; of the plain one none is.
 //!
 //! An opened table has memory for the ends of all its items' rings, and makes these ends only as they are written: from a
 //! first item on that its maker tells, up to the last that was written, and behind the last item those before the first

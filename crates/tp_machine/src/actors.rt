@@ -11,6 +11,7 @@ use crate::part::{
     Act, Part, coordinator_crashes_in, coordinator_submits, coordinator_takes, crash_alone, no_act,
     server_crashes_in, server_takes,
 };
+use crate::spares::Spares;
 use std::alloc::Global;
 use tp_coord::Coordinator;
 use tp_device::MemoryDisk;
@@ -197,6 +198,7 @@ impl Actors {
     pub fn crash_in(
         &mut self,
         alloc: Global,
+        spares: &mut Spares,
         scenario: &Scenario,
         actor: Actor,
         mail: &Mail,
@@ -214,15 +216,18 @@ impl Actors {
         ensures logs { OnErr result (SameLogs self.old self.new) }
     {
         match actor {
-            Actor::Server(at) => self.server_crash_in(alloc, scenario, at, mail, cut),
-            Actor::Coordinator(txn) => self.coordinator_crash_in(alloc, scenario, txn, mail, cut),
-            _ => crash_alone(alloc, actor),
+            Actor::Server(at) => self.server_crash_in(alloc, spares, scenario, at, mail, cut),
+            Actor::Coordinator(txn) => self.coordinator_crash_in(
+                alloc, spares, scenario, txn, mail, cut,
+            ),
+            _ => crash_alone(alloc, &mut spares.facts, actor),
         }
     }
 
     fn server_crash_in(
         &mut self,
         alloc: Global,
+        spares: &mut Spares,
         scenario: &Scenario,
         at: ServerId,
         mail: &Mail,
@@ -241,14 +246,15 @@ impl Actors {
         ensures logs { OnErr result (SameLogs self.old self.new) }
     {
         match self.servers.get_mut(at.0 as usize) {
-            None => crash_alone(alloc, Actor::Server(at)),
-            Some(part) => server_crashes_in(part, alloc, scenario, at, mail, cut),
+            None => crash_alone(alloc, &mut spares.facts, Actor::Server(at)),
+            Some(part) => server_crashes_in(part, alloc, spares, scenario, at, mail, cut),
         }
     }
 
     fn coordinator_crash_in(
         &mut self,
         alloc: Global,
+        spares: &mut Spares,
         scenario: &Scenario,
         txn: TxnId,
         mail: &Mail,
@@ -266,8 +272,8 @@ impl Actors {
         ensures logs { OnErr result (SameLogs self.old self.new) }
     {
         match self.coordinators.get_mut(txn.0 as usize) {
-            None => crash_alone(alloc, Actor::Coordinator(txn)),
-            Some(part) => coordinator_crashes_in(part, alloc, scenario, txn, mail, cut),
+            None => crash_alone(alloc, &mut spares.facts, Actor::Coordinator(txn)),
+            Some(part) => coordinator_crashes_in(part, alloc, spares, scenario, txn, mail, cut),
         }
     }
 
@@ -295,6 +301,7 @@ impl Actors {
     pub fn receive(
         &mut self,
         alloc: Global,
+        spares: &mut Spares,
         scenario: &Scenario,
         mail: &Mail,
     ) -> Result<Act, NoMemory>
@@ -308,16 +315,17 @@ impl Actors {
         ensures logs { OnErr result (SameLogs self.old self.new) }
     {
         match mail.letter.to {
-            Actor::Server(at) => self.to_server(alloc, scenario, mail, at),
-            Actor::Coordinator(txn) => self.to_coordinator(alloc, scenario, mail, txn),
-            Actor::Authority => self.to_authority(alloc, mail),
-            Actor::Master => self.to_master(alloc, mail),
+            Actor::Server(at) => self.to_server(alloc, spares, scenario, mail, at),
+            Actor::Coordinator(txn) => self.to_coordinator(alloc, spares, scenario, mail, txn),
+            Actor::Authority => self.to_authority(alloc, spares, mail),
+            Actor::Master => self.to_master(alloc, spares, mail),
         }
     }
 
     fn to_server(
         &mut self,
         alloc: Global,
+        spares: &mut Spares,
         scenario: &Scenario,
         mail: &Mail,
         at: ServerId,
@@ -335,13 +343,14 @@ impl Actors {
     {
         match self.servers.get_mut(at.0 as usize) {
             None => Ok(no_act(alloc)),
-            Some(part) => server_takes(part, alloc, scenario, at, mail),
+            Some(part) => server_takes(part, alloc, spares, scenario, at, mail),
         }
     }
 
     fn to_coordinator(
         &mut self,
         alloc: Global,
+        spares: &mut Spares,
         scenario: &Scenario,
         mail: &Mail,
         txn: TxnId,
@@ -359,24 +368,28 @@ impl Actors {
     {
         match self.coordinators.get_mut(txn.0 as usize) {
             None => Ok(no_act(alloc)),
-            Some(part) => coordinator_takes(part, alloc, scenario, mail),
+            Some(part) => coordinator_takes(part, alloc, spares, scenario, mail),
         }
     }
 
-    fn to_authority(&self, alloc: Global, mail: &Mail) -> Result<Act, NoMemory>
+    fn to_authority(&self, alloc: Global, spares: &mut Spares, mail: &Mail) -> Result<Act, NoMemory>
         ensures { IfOk result (λ act. Moves (machine.to_authority self.now mail.now) self.now act) }
     {
-        let Reaction { append: _, letters } = self.authority.receive(alloc, mail)?;
+        let Reaction { append: _, letters } = self
+            .authority
+            .receive(alloc, &mut spares.letters, mail)?;
         Ok(Act {
             happened: List::new(alloc),
             letters,
         })
     }
 
-    fn to_master(&self, alloc: Global, mail: &Mail) -> Result<Act, NoMemory>
+    fn to_master(&self, alloc: Global, spares: &mut Spares, mail: &Mail) -> Result<Act, NoMemory>
         ensures { IfOk result (λ act. Moves (machine.to_master self.now mail.now) self.now act) }
     {
-        let Reaction { append: _, letters } = self.master.receive(alloc, mail)?;
+        let Reaction { append: _, letters } = self
+            .master
+            .receive(alloc, &mut spares.letters, mail)?;
         Ok(Act {
             happened: List::new(alloc),
             letters,
@@ -384,7 +397,12 @@ impl Actors {
     }
 
     /// The master publishes the next version of an administrator's policy.
-    pub fn publish(&mut self, alloc: Global, admin: AdminId) -> Result<Act, NoMemory>
+    pub fn publish(
+        &mut self,
+        alloc: Global,
+        spares: &mut Spares,
+        admin: AdminId,
+    ) -> Result<Act, NoMemory>
         requires { office.has_more self.old.master admin ≡ true }
         ensures ok { IfOk result (λ act. Moves (machine.publishes self.old admin) self.new act) }
         ensures up { SameUp self.old self.new }
@@ -393,18 +411,28 @@ impl Actors {
         match self.master.publish(admin) {
             Err(NoMore) => unreachable!(),
             Ok(version) => Ok(Act {
-                happened: List::of_one(alloc, What::Published(admin, version))?,
+                happened: spares
+                    .facts
+                    .list_of(alloc, What::Published(admin, version))?,
                 letters: List::new(alloc),
             }),
         }
     }
 
     /// The master pushes the newest version of an administrator's policy to a server.
-    pub fn push(&self, alloc: Global, admin: AdminId, server: ServerId) -> Result<Act, NoMemory>
+    pub fn push(
+        &self,
+        alloc: Global,
+        spares: &mut Spares,
+        admin: AdminId,
+        server: ServerId,
+    ) -> Result<Act, NoMemory>
         ensures { IfOk result (λ act.
             Moves (machine.pushes self.now admin server) self.now act) }
     {
-        let Reaction { append: _, letters } = self.master.push(alloc, admin, server)?;
+        let Reaction { append: _, letters } = self
+            .master
+            .push(alloc, &mut spares.letters, admin, server)?;
         Ok(Act {
             happened: List::new(alloc),
             letters,
@@ -412,23 +440,29 @@ impl Actors {
     }
 
     /// A transaction's timer fires: its coordinator sends its outstanding request again.
-    pub fn timer(&self, alloc: Global, scenario: &Scenario, txn: TxnId) -> Result<Act, NoMemory>
+    pub fn timer(
+        &self,
+        alloc: Global,
+        spares: &mut Spares,
+        scenario: &Scenario,
+        txn: TxnId,
+    ) -> Result<Act, NoMemory>
         ensures { IfOk result (λ act. Moves (machine.times scenario.now self.now txn) self.now act) }
     {
         match self.coordinators.get(txn.0 as usize) {
             None => Ok(no_act(alloc)),
-            Some(part) => repeats_of(alloc, scenario, part.state()),
+            Some(part) => repeats_of(alloc, spares, scenario, part.state()),
         }
     }
 
     /// The clock moves.
-    pub fn tick(&mut self, alloc: Global, by: u64) -> Result<Act, NoMemory>
+    pub fn tick(&mut self, alloc: Global, spares: &mut Spares, by: u64) -> Result<Act, NoMemory>
         requires { self.old.authority.clock + by < clock_end }
         ensures ok { IfOk result (λ act. Moves (machine.ticks self.old by) self.new act) }
         ensures up { SameUp self.old self.new }
         ensures logs { SameLogs self.old self.new }
     {
-        let happened = List::of_one(alloc, What::Ticked(by))?;
+        let happened = spares.facts.list_of(alloc, What::Ticked(by))?;
         self.authority.tick(by);
         Ok(Act {
             happened,
@@ -437,12 +471,17 @@ impl Actors {
     }
 
     /// A credential is revoked.
-    pub fn revoke(&mut self, alloc: Global, cred: CredId) -> Result<Act, NoMemory>
+    pub fn revoke(
+        &mut self,
+        alloc: Global,
+        spares: &mut Spares,
+        cred: CredId,
+    ) -> Result<Act, NoMemory>
         ensures ok { IfOk result (λ act. Moves (machine.revokes self.old cred) self.new act) }
         ensures up { SameUp self.old self.new }
         ensures logs { SameLogs self.old self.new }
     {
-        let happened = List::of_one(alloc, What::Revoked(cred))?;
+        let happened = spares.facts.list_of(alloc, What::Revoked(cred))?;
         self.authority.revoke(cred);
         Ok(Act {
             happened,
@@ -454,6 +493,7 @@ impl Actors {
     pub fn submit(
         &mut self,
         alloc: Global,
+        spares: &mut Spares,
         scenario: &Scenario,
         txn: TxnId,
         place: Place,
@@ -466,16 +506,21 @@ impl Actors {
     {
         match self.coordinators.get_mut(txn.0 as usize) {
             None => Ok(Act {
-                happened: List::of_one(alloc, What::Submitted(txn))?,
+                happened: spares.facts.list_of(alloc, What::Submitted(txn))?,
                 letters: List::new(alloc),
             }),
-            Some(part) => coordinator_submits(part, alloc, scenario, txn, place),
+            Some(part) => coordinator_submits(part, alloc, spares, scenario, txn, place),
         }
     }
 }
 
 /// What a coordinator sends again at its timer; nothing while it is down.
-fn repeats_of(alloc: Global, scenario: &Scenario, up: Option<&Coordinator>) -> Result<Act, NoMemory>
+fn repeats_of(
+    alloc: Global,
+    spares: &mut Spares,
+    scenario: &Scenario,
+    up: Option<&Coordinator>,
+) -> Result<Act, NoMemory>
     ensures ok { IfOk result (λ act. act.happened ≡ []) }
     ensures letters { IfOk result (λ act.
         act.letters ≡ machine.repeats_of scenario.now (option_copied up.entry)) }
@@ -483,7 +528,11 @@ fn repeats_of(alloc: Global, scenario: &Scenario, up: Option<&Coordinator>) -> R
     match up {
         None => Ok(no_act(alloc)),
         Some(coordinator) => {
-            let Reaction { append: _, letters } = coordinator.timer(alloc, scenario)?;
+            let Reaction { append: _, letters } = coordinator.timer(
+                alloc,
+                &mut spares.letters,
+                scenario,
+            )?;
             Ok(Act {
                 happened: List::new(alloc),
                 letters,

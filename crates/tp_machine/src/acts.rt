@@ -21,6 +21,7 @@ use crate::error::StepError;
 use crate::history::History;
 use crate::opening::Opening;
 use crate::part::{Act, alone, coordinator_boots, crash_alone, no_act, server_boots};
+use crate::spares::Spares;
 use std::alloc::Global;
 use tp_coord::Coordinator;
 use tp_offices::{CLOCK_END, Master};
@@ -228,6 +229,7 @@ pub fn act(
     actors: &mut Actors,
     history: &mut History,
     alloc: Global,
+    spares: &mut Spares,
     scenario: &Scenario,
     opening: &Opening,
     taken: &Step,
@@ -254,9 +256,9 @@ pub fn act(
         Step::Crash {
             actor,
             cut: Some(cut),
-        } => crash_in(actors, history, alloc, scenario, actor, cut),
+        } => crash_in(actors, history, alloc, spares, scenario, actor, cut),
         _ => {
-            act_whole(actors, history, alloc, scenario, opening, taken)?;
+            act_whole(actors, history, alloc, spares, scenario, opening, taken)?;
             Ok(None)
         }
     }
@@ -267,6 +269,7 @@ pub fn act_untold(
     actors: &mut Actors,
     history: &mut History,
     alloc: Global,
+    spares: &mut Spares,
     scenario: &Scenario,
     opening: &Opening,
     taken: &Step,
@@ -292,19 +295,21 @@ pub fn act_untold(
             actor,
             cut: Some(cut),
         } => {
-            let forced = crash_in(actors, history, alloc, scenario, actor, cut)?;
+            let forced = crash_in(actors, history, alloc, spares, scenario, actor, cut)?;
             drop(forced);
             Ok(())
         }
-        _ => act_whole(actors, history, alloc, scenario, opening, taken),
+        _ => act_whole(actors, history, alloc, spares, scenario, opening, taken),
     }
 }
 
 /// Does a step that is not refused, in which no actor crashes in a receipt.
+#[inline(always)]
 fn act_whole(
     actors: &mut Actors,
     history: &mut History,
     alloc: Global,
+    spares: &mut Spares,
     scenario: &Scenario,
     opening: &Opening,
     taken: &Step,
@@ -327,24 +332,24 @@ fn act_whole(
         actors.new) }
 {
     match *taken {
-        Step::Submit { txn } => submit(actors, history, alloc, scenario, txn),
-        Step::Deliver { mail } => deliver(actors, history, alloc, scenario, mail),
-        Step::Publish { admin } => publish(actors, history, alloc, admin),
-        Step::Push { admin, server } => push(actors, history, alloc, admin, server),
-        Step::Tick { by } => tick(actors, history, alloc, by),
-        Step::Revoke { cred } => revoke(actors, history, alloc, cred),
-        Step::Lose { mail } => lose(actors, history, alloc, mail),
-        Step::Timer { txn } => timer(actors, history, alloc, scenario, txn),
-        Step::Crash { actor, cut: None } => crash(actors, history, alloc, actor),
+        Step::Submit { txn } => submit(actors, history, alloc, spares, scenario, txn),
+        Step::Deliver { mail } => deliver(actors, history, alloc, spares, scenario, mail),
+        Step::Publish { admin } => publish(actors, history, alloc, spares, admin),
+        Step::Push { admin, server } => push(actors, history, alloc, spares, admin, server),
+        Step::Tick { by } => tick(actors, history, alloc, spares, by),
+        Step::Revoke { cred } => revoke(actors, history, alloc, spares, cred),
+        Step::Lose { mail } => lose(actors, history, alloc, spares, mail),
+        Step::Timer { txn } => timer(actors, history, alloc, spares, scenario, txn),
+        Step::Crash { actor, cut: None } => crash(actors, history, alloc, spares, actor),
         Step::Crash { cut: Some(_), .. } => unreachable!(),
         Step::Boot {
             actor: Actor::Server(at),
-        } => boot_server(actors, history, alloc, scenario, opening, at),
+        } => boot_server(actors, history, alloc, spares, scenario, opening, at),
         Step::Boot {
             actor: Actor::Coordinator(txn),
-        } => boot_coordinator(actors, history, alloc, scenario, txn),
+        } => boot_coordinator(actors, history, alloc, spares, scenario, txn),
         // the offices never crash
-        Step::Boot { actor } => boots_nobody(history, alloc, actor),
+        Step::Boot { actor } => boots_nobody(history, alloc, spares, actor),
     }
 }
 
@@ -353,6 +358,7 @@ fn crash(
     actors: &mut Actors,
     history: &mut History,
     alloc: Global,
+    spares: &mut Spares,
     actor: Actor,
 ) -> Result<(), NoMemory>
     ensures ok { (sc : Scenario) → OnOk result
@@ -362,8 +368,13 @@ fn crash(
     ensures same_history { OnErr result (SameHistory history.old history.new) }
     ensures same_actors { OnErr result (actors.new ≡ actors.old) }
 {
-    let act = alone(alloc, What::Crashed(actor))?;
-    history.note(Step::Crash { actor, cut: None }, act.happened, act.letters)?;
+    let act = alone(alloc, &mut spares.facts, What::Crashed(actor))?;
+    history.note(
+        spares,
+        Step::Crash { actor, cut: None },
+        act.happened,
+        act.letters,
+    )?;
     actors.goes_down(alloc, actor);
     Ok(())
 }
@@ -374,6 +385,7 @@ fn crash_in(
     actors: &mut Actors,
     history: &mut History,
     alloc: Global,
+    spares: &mut Spares,
     scenario: &Scenario,
     actor: Actor,
     cut: Cut,
@@ -399,6 +411,7 @@ fn crash_in(
     let (act, forced) = receive_cut(
         actors,
         alloc,
+        spares,
         scenario,
         history.mails.as_slice(),
         actor,
@@ -408,7 +421,7 @@ fn crash_in(
         actor,
         cut: Some(cut),
     };
-    match history.note(taken, act.happened, act.letters) {
+    match history.note(spares, taken, act.happened, act.letters) {
         Ok(()) => {
             history.mark(cut.mail as usize);
             actors.goes_down(alloc, actor);
@@ -424,6 +437,7 @@ fn crash_in(
 fn receive_cut(
     actors: &mut Actors,
     alloc: Global,
+    spares: &mut Spares,
     scenario: &Scenario,
     mails: &[Mail],
     actor: Actor,
@@ -443,8 +457,8 @@ fn receive_cut(
     ensures logs { OnErr result (SameLogs actors.old actors.new) }
 {
     match mails.get(cut.mail as usize) {
-        None => crash_alone(alloc, actor),
-        Some(found) => actors.crash_in(alloc, scenario, actor, found, cut),
+        None => crash_alone(alloc, &mut spares.facts, actor),
+        Some(found) => actors.crash_in(alloc, spares, scenario, actor, found, cut),
     }
 }
 
@@ -453,6 +467,7 @@ fn boot_server(
     actors: &mut Actors,
     history: &mut History,
     alloc: Global,
+    spares: &mut Spares,
     scenario: &Scenario,
     opening: &Opening,
     at: ServerId,
@@ -471,7 +486,7 @@ fn boot_server(
 {
     let actor = Actor::Server(at);
     let Some(part) = actors.servers.get_mut(at.0 as usize) else {
-        return boots_nobody(history, alloc, actor);
+        return boots_nobody(history, alloc, spares, actor);
     };
     let own = both(
         opening.share(),
@@ -479,7 +494,7 @@ fn boot_server(
     );
     let (own, locks) = own?;
     let (state, act) = server_boots(part, alloc, scenario, at, own, locks)?;
-    match history.note(Step::Boot { actor }, act.happened, act.letters) {
+    match history.note(spares, Step::Boot { actor }, act.happened, act.letters) {
         Ok(()) => {
             part.comes_up(state);
             Ok(())
@@ -496,6 +511,7 @@ fn boot_coordinator(
     actors: &mut Actors,
     history: &mut History,
     alloc: Global,
+    spares: &mut Spares,
     scenario: &Scenario,
     txn: TxnId,
 ) -> Result<(), NoMemory>
@@ -513,10 +529,10 @@ fn boot_coordinator(
 {
     let actor = Actor::Coordinator(txn);
     let Some(part) = actors.coordinators.get_mut(txn.0 as usize) else {
-        return boots_nobody(history, alloc, actor);
+        return boots_nobody(history, alloc, spares, actor);
     };
     let (state, act) = coordinator_boots(part, alloc, scenario, txn)?;
-    match history.note(Step::Boot { actor }, act.happened, act.letters) {
+    match history.note(spares, Step::Boot { actor }, act.happened, act.letters) {
         Ok(()) => {
             part.comes_up(state);
             Ok(())
@@ -529,17 +545,28 @@ fn boot_coordinator(
 }
 
 /// Nobody boots.
-fn boots_nobody(history: &mut History, alloc: Global, actor: Actor) -> Result<(), NoMemory>
+fn boots_nobody(
+    history: &mut History,
+    alloc: Global,
+    spares: &mut Spares,
+    actor: Actor,
+) -> Result<(), NoMemory>
     ensures ok { OnOk result (Notes history.old history.new (step.Boot actor) [] []) }
     ensures same_history { OnErr result (SameHistory history.old history.new) }
 {
-    history.note(Step::Boot { actor }, List::new(alloc), List::new(alloc))
+    history.note(
+        spares,
+        Step::Boot { actor },
+        List::new(alloc),
+        List::new(alloc),
+    )
 }
 
 fn submit(
     actors: &mut Actors,
     history: &mut History,
     alloc: Global,
+    spares: &mut Spares,
     scenario: &Scenario,
     txn: TxnId,
 ) -> Result<(), NoMemory>
@@ -555,14 +582,15 @@ fn submit(
         (machine.submission scenario.now actors.old txn (length history.old.steps)).actors
         actors.new) }
 {
-    let act = actors.submit(alloc, scenario, txn, history.steps.len() as u64)?;
-    history.note(Step::Submit { txn }, act.happened, act.letters)
+    let act = actors.submit(alloc, spares, scenario, txn, history.steps.len() as u64)?;
+    history.note(spares, Step::Submit { txn }, act.happened, act.letters)
 }
 
 fn deliver(
     actors: &mut Actors,
     history: &mut History,
     alloc: Global,
+    spares: &mut Spares,
     scenario: &Scenario,
     mail: u64,
 ) -> Result<(), NoMemory>
@@ -580,8 +608,15 @@ fn deliver(
         (machine.delivery scenario.now actors.old (slice_get history.old.mails mail)).actors
         actors.new) }
 {
-    let act = receive(actors, alloc, scenario, history.mails.as_slice(), mail)?;
-    history.note(Step::Deliver { mail }, act.happened, act.letters)?;
+    let act = receive(
+        actors,
+        alloc,
+        spares,
+        scenario,
+        history.mails.as_slice(),
+        mail,
+    )?;
+    history.note(spares, Step::Deliver { mail }, act.happened, act.letters)?;
     history.mark(mail as usize);
     Ok(())
 }
@@ -590,6 +625,7 @@ fn publish(
     actors: &mut Actors,
     history: &mut History,
     alloc: Global,
+    spares: &mut Spares,
     admin: AdminId,
 ) -> Result<(), NoMemory>
     requires { office.has_more actors.old.master admin ≡ true }
@@ -601,14 +637,15 @@ fn publish(
     ensures up { SameUp actors.old actors.new }
     ensures logs { SameLogs actors.old actors.new }
 {
-    let act = actors.publish(alloc, admin)?;
-    history.note(Step::Publish { admin }, act.happened, act.letters)
+    let act = actors.publish(alloc, spares, admin)?;
+    history.note(spares, Step::Publish { admin }, act.happened, act.letters)
 }
 
 fn push(
     actors: &Actors,
     history: &mut History,
     alloc: Global,
+    spares: &mut Spares,
     admin: AdminId,
     server: ServerId,
 ) -> Result<(), NoMemory>
@@ -618,19 +655,30 @@ fn push(
         (machine.pushes actors.now admin server)) }
     ensures same_history { OnErr result (SameHistory history.old history.new) }
 {
-    let act = actors.push(alloc, admin, server)?;
-    history.note(Step::Push { admin, server }, act.happened, act.letters)
+    let act = actors.push(alloc, spares, admin, server)?;
+    history.note(
+        spares,
+        Step::Push { admin, server },
+        act.happened,
+        act.letters,
+    )
 }
 
-fn lose(actors: &Actors, history: &mut History, alloc: Global, mail: u64) -> Result<(), NoMemory>
+fn lose(
+    actors: &Actors,
+    history: &mut History,
+    alloc: Global,
+    spares: &mut Spares,
+    mail: u64,
+) -> Result<(), NoMemory>
     requires sent { mail < length history.old.mails }
     ensures ok { OnOk result
         (machine_of actors.now history.new
         ≡ machine.machine_after_loss (machine_of actors.now history.old) mail) }
     ensures same_history { OnErr result (SameHistory history.old history.new) }
 {
-    let act = alone(alloc, What::Lost(mail))?;
-    history.note(Step::Lose { mail }, act.happened, act.letters)?;
+    let act = alone(alloc, &mut spares.facts, What::Lost(mail))?;
+    history.note(spares, Step::Lose { mail }, act.happened, act.letters)?;
     history.mark(mail as usize);
     Ok(())
 }
@@ -639,6 +687,7 @@ fn timer(
     actors: &Actors,
     history: &mut History,
     alloc: Global,
+    spares: &mut Spares,
     scenario: &Scenario,
     txn: TxnId,
 ) -> Result<(), NoMemory>
@@ -648,11 +697,17 @@ fn timer(
         (machine.times scenario.now actors.now txn)) }
     ensures same_history { OnErr result (SameHistory history.old history.new) }
 {
-    let act = actors.timer(alloc, scenario, txn)?;
-    history.note(Step::Timer { txn }, act.happened, act.letters)
+    let act = actors.timer(alloc, spares, scenario, txn)?;
+    history.note(spares, Step::Timer { txn }, act.happened, act.letters)
 }
 
-fn tick(actors: &mut Actors, history: &mut History, alloc: Global, by: u64) -> Result<(), NoMemory>
+fn tick(
+    actors: &mut Actors,
+    history: &mut History,
+    alloc: Global,
+    spares: &mut Spares,
+    by: u64,
+) -> Result<(), NoMemory>
     requires { actors.old.authority.clock + by < clock_end }
     ensures ok { OnOk result
         (machine_of actors.new history.new
@@ -662,14 +717,15 @@ fn tick(actors: &mut Actors, history: &mut History, alloc: Global, by: u64) -> R
     ensures up { SameUp actors.old actors.new }
     ensures logs { SameLogs actors.old actors.new }
 {
-    let act = actors.tick(alloc, by)?;
-    history.note(Step::Tick { by }, act.happened, act.letters)
+    let act = actors.tick(alloc, spares, by)?;
+    history.note(spares, Step::Tick { by }, act.happened, act.letters)
 }
 
 fn revoke(
     actors: &mut Actors,
     history: &mut History,
     alloc: Global,
+    spares: &mut Spares,
     cred: CredId,
 ) -> Result<(), NoMemory>
     ensures ok { OnOk result
@@ -680,13 +736,14 @@ fn revoke(
     ensures up { SameUp actors.old actors.new }
     ensures logs { SameLogs actors.old actors.new }
 {
-    let act = actors.revoke(alloc, cred)?;
-    history.note(Step::Revoke { cred }, act.happened, act.letters)
+    let act = actors.revoke(alloc, spares, cred)?;
+    history.note(spares, Step::Revoke { cred }, act.happened, act.letters)
 }
 
 fn receive(
     actors: &mut Actors,
     alloc: Global,
+    spares: &mut Spares,
     scenario: &Scenario,
     mails: &[Mail],
     mail: u64,
@@ -702,6 +759,6 @@ fn receive(
 {
     match mails.get(mail as usize) {
         None => Ok(no_act(alloc)),
-        Some(found) => actors.receive(alloc, scenario, found),
+        Some(found) => actors.receive(alloc, spares, scenario, found),
     }
 }

@@ -4,9 +4,10 @@ ghost use Rattle.tp_pending.specs.Flags.{marked};
 ghost use Rattle.std.specs.List.{list_any};
 ghost use Rattle.tp_machine.specs.Machine.{facts_of, mails_of};
 
+use crate::spares::Spares;
 use std::alloc::Global;
 use tp_pending::Pending;
-use tp_types::{Fact, Letter, List, Mail, NoMemory, Place, Scenario, Step, What, both};
+use tp_types::{Fact, Letter, List, Mail, NoMemory, Place, Scenario, Spare, Step, What, both};
 
 /// The steps, facts and mails of a run so far.
 #[derive(Drop)]
@@ -72,9 +73,11 @@ impl History {
         self.pending.count() as u64
     }
 
-    /// Adds a step with what happened in it and its letters, which become mails. Where memory is refused nothing is added.
+    /// Adds a step with what happened in it and its letters, which become mails, and keeps the memory of both lists. Where memory
+    /// is refused nothing is added.
     pub fn note(
         &mut self,
+        spares: &mut Spares,
         taken: Step,
         happened: List<What>,
         letters: List<Letter>,
@@ -90,6 +93,7 @@ impl History {
             &mut self.facts,
             &mut self.mails,
             &mut self.pending,
+            spares,
             taken,
             happened,
             letters,
@@ -156,6 +160,7 @@ fn add(
     facts: &mut List<Fact>,
     mails: &mut List<Mail>,
     pending: &mut Pending,
+    spares: &mut Spares,
     taken: Step,
     happened: List<What>,
     letters: List<Letter>,
@@ -172,8 +177,28 @@ fn add(
 {
     let place = steps.len() as u64;
     steps.push(taken)?;
-    add_facts(facts, place, happened)?;
-    post(mails, pending, place, letters)
+    tell(facts, &mut spares.facts, place, happened)?;
+    send(mails, pending, &mut spares.letters, place, letters)
+}
+
+/// Adds what happened to the facts, and keeps the memory of a list of one or none.
+fn tell(
+    facts: &mut List<Fact>,
+    spare: &mut Spare<What>,
+    place: Place,
+    mut happened: List<What>,
+) -> Result<(), NoMemory>
+    ensures ok { OnOk result (facts.new ≡ facts.old ++ facts_of place happened) }
+    ensures kept { take (length facts.old) facts.new ≡ facts.old }
+{
+    if 1 < happened.len() {
+        return add_facts(facts, place, happened);
+    }
+    if let Some(what) = happened.pop() {
+        facts.push(Fact { place, what })?;
+    }
+    spare.keep(happened);
+    Ok(())
 }
 
 fn add_facts(facts: &mut List<Fact>, place: Place, happened: List<What>) -> Result<(), NoMemory>
@@ -183,6 +208,30 @@ fn add_facts(facts: &mut List<Fact>, place: Place, happened: List<What>) -> Resu
     for what in happened.into_vec() {
         facts.push(Fact { place, what })?;
     }
+    Ok(())
+}
+
+/// Makes mails of letters, and keeps the memory of a list of one or none.
+fn send(
+    mails: &mut List<Mail>,
+    pending: &mut Pending,
+    spare: &mut Spare<Letter>,
+    sent: Place,
+    mut letters: List<Letter>,
+) -> Result<(), NoMemory>
+    ensures mails { OnOk result
+        (mails.new ≡ mails.old ++ mails_of sent (length mails.old) letters) }
+    ensures pending { OnOk result (pending.new ≡ pending.old ++ replicate (length letters) true) }
+    ensures mails_kept { take (length mails.old) mails.new ≡ mails.old }
+    ensures pending_kept { take (length pending.old) pending.new ≡ pending.old }
+{
+    if 1 < letters.len() {
+        return post(mails, pending, sent, letters);
+    }
+    if let Some(letter) = letters.pop() {
+        post_one(mails, pending, sent, letter)?;
+    }
+    spare.keep(letters);
     Ok(())
 }
 
@@ -199,13 +248,31 @@ fn post(
     ensures pending_kept { take (length pending.old) pending.new ≡ pending.old }
 {
     for letter in letters.into_vec() {
-        let number = mails.len() as u64;
-        mails.push(Mail {
-            number,
-            sent,
-            letter,
-        })?;
-        pending.post()?;
+        post_one(mails, pending, sent, letter)?;
     }
+    Ok(())
+}
+
+/// Makes a letter the next mail, which is undelivered.
+#[inline(always)]
+fn post_one(
+    mails: &mut List<Mail>,
+    pending: &mut Pending,
+    sent: Place,
+    letter: Letter,
+) -> Result<(), NoMemory>
+    ensures mails { OnOk result
+        (mails.new ≡ mails.old ++ mails_of sent (length mails.old) (letter ∷ [])) }
+    ensures pending { OnOk result (pending.new ≡ pending.old ++ true ∷ []) }
+    ensures mails_kept { take (length mails.old) mails.new ≡ mails.old }
+    ensures pending_kept { take (length pending.old) pending.new ≡ pending.old }
+{
+    let number = mails.len() as u64;
+    mails.push(Mail {
+        number,
+        sent,
+        letter,
+    })?;
+    pending.post()?;
     Ok(())
 }

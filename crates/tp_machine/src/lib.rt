@@ -37,6 +37,7 @@ mod history;
 mod opening;
 mod part;
 mod past;
+mod spares;
 mod world;
 
 pub use actors::{Actors, Locks};

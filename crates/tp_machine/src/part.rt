@@ -23,6 +23,7 @@ ghost use Rattle.tp_types.specs.Effect.{Gives};
 use crate::disks::{force, tear};
 use crate::opening::Opening;
 use crate::past::Past;
+use crate::spares::Spares;
 use std::alloc::Global;
 use std::marker::Model;
 use tp_coord::Coordinator;
@@ -33,7 +34,7 @@ use tp_recover::{Kept, kept_apart};
 use tp_server::Server;
 use tp_store::{OpeningValues, Values, first_item};
 use tp_types::{
-    Actor, Cut, Letter, List, Mail, NoMemory, Place, Reaction, Record, Scenario, ServerId,
+    Actor, Cut, Letter, List, Mail, NoMemory, Place, Reaction, Record, Scenario, ServerId, Spare,
     TryClone, TxnId, What,
 };
 
@@ -229,11 +230,11 @@ pub fn no_act(alloc: Global) -> Act
 }
 
 /// This happened, and no actor acted.
-pub fn alone(alloc: Global, happened: What) -> Result<Act, NoMemory>
+pub fn alone(alloc: Global, spare: &mut Spare<What>, happened: What) -> Result<Act, NoMemory>
     ensures { IfOk result (λ act. act ≡ record { happened = happened ∷ []; letters = [] }) }
 {
     Ok(Act {
-        happened: List::of_one(alloc, happened)?,
+        happened: spare.list_of(alloc, happened)?,
         letters: List::new(alloc),
     })
 }
@@ -293,6 +294,7 @@ fn torn<S: Drop>(
 pub fn server_takes<L: LockTable + Drop>(
     part: &mut Part<Server<L>>,
     alloc: Global,
+    spares: &mut Spares,
     scenario: &Scenario,
     at: ServerId,
     mail: &Mail,
@@ -307,8 +309,8 @@ pub fn server_takes<L: LockTable + Drop>(
     let Some(server) = &mut part.up else {
         return Ok(no_act(alloc));
     };
-    let Reaction { append, letters } = server.receive(alloc, scenario, mail)?;
-    let happened = server_facts(alloc, at, &append);
+    let Reaction { append, letters } = server.receive(alloc, &mut spares.letters, scenario, mail)?;
+    let happened = server_facts(alloc, &mut spares.facts, at, &append);
     match noted(part, alloc, &append, happened) {
         Ok(happened) => {
             drop(append);
@@ -327,6 +329,7 @@ pub fn server_takes<L: LockTable + Drop>(
 pub fn coordinator_takes(
     part: &mut Part<Coordinator>,
     alloc: Global,
+    spares: &mut Spares,
     scenario: &Scenario,
     mail: &Mail,
 ) -> Result<Act, NoMemory>
@@ -339,8 +342,13 @@ pub fn coordinator_takes(
     let Some(coordinator) = &mut part.up else {
         return Ok(no_act(alloc));
     };
-    let Reaction { append, letters } = coordinator.receive(alloc, scenario, mail)?;
-    match forced_with_room(part, alloc, &append) {
+    let Reaction { append, letters } = coordinator.receive(
+        alloc,
+        &mut spares.letters,
+        scenario,
+        mail,
+    )?;
+    match forced_with_room(part, alloc, &mut spares.facts, &append) {
         Ok(room) => {
             let happened = coordinator_facts_in(room, append);
             Ok(Act { happened, letters })
@@ -357,6 +365,7 @@ pub fn coordinator_takes(
 pub fn coordinator_submits(
     part: &mut Part<Coordinator>,
     alloc: Global,
+    spares: &mut Spares,
     scenario: &Scenario,
     txn: TxnId,
     place: Place,
@@ -369,11 +378,11 @@ pub fn coordinator_submits(
     ensures log { OnErr result (part.new.log ≡ part.old.log) }
 {
     let Some(coordinator) = &mut part.up else {
-        return alone(alloc, What::Submitted(txn));
+        return alone(alloc, &mut spares.facts, What::Submitted(txn));
     };
-    let Reaction { append, letters } = coordinator.submit(alloc, scenario)?;
+    let Reaction { append, letters } = coordinator.submit(alloc, &mut spares.letters, scenario)?;
     coordinator.placed(place);
-    let happened = with_decision(alloc, What::Submitted(txn), &append);
+    let happened = with_decision(alloc, &mut spares.facts, What::Submitted(txn), &append);
     match noted(part, alloc, &append, happened) {
         Ok(happened) => {
             drop(append);
@@ -388,12 +397,16 @@ pub fn coordinator_submits(
 }
 
 /// A crash in a receipt, by which nothing happens but the crash.
-pub fn crash_alone(alloc: Global, actor: Actor) -> Result<(Act, Option<Record>), NoMemory>
+pub fn crash_alone(
+    alloc: Global,
+    spare: &mut Spare<What>,
+    actor: Actor,
+) -> Result<(Act, Option<Record>), NoMemory>
     ensures crash { IfOk result (λ made.
         made.0 ≡ record { happened = what.Crashed actor ∷ []; letters = [] }) }
     ensures forced { IfOk result (λ made. made.1 ≡ None) }
 {
-    Ok((alone(alloc, What::Crashed(actor))?, None))
+    Ok((alone(alloc, spare, What::Crashed(actor))?, None))
 }
 
 /// A server crashes in the receipt of a mail: what is left of it is on its log. It goes down once that is noted, and is up until
@@ -402,6 +415,7 @@ pub fn crash_alone(alloc: Global, actor: Actor) -> Result<(Act, Option<Record>),
 pub fn server_crashes_in<L: LockTable + Drop>(
     part: &mut Part<Server<L>>,
     alloc: Global,
+    spares: &mut Spares,
     scenario: &Scenario,
     at: ServerId,
     mail: &Mail,
@@ -420,10 +434,12 @@ pub fn server_crashes_in<L: LockTable + Drop>(
     ensures log { OnErr result (part.new.log ≡ part.old.log) }
 {
     let Some(server) = &mut part.up else {
-        return crash_alone(alloc, Actor::Server(at));
+        return crash_alone(alloc, &mut spares.facts, Actor::Server(at));
     };
-    let append = server.receive(alloc, scenario, mail)?.append;
-    let happened = server_cut_facts(alloc, at, cut, &append);
+    let append = server
+        .receive(alloc, &mut spares.letters, scenario, mail)?
+        .append;
+    let happened = server_cut_facts(alloc, &mut spares.facts, at, cut, &append);
     match torn(part, alloc, &append, happened, cut) {
         Ok(happened) => Ok((act_of(alloc, happened), append)),
         Err(NoMemory) => {
@@ -448,6 +464,7 @@ fn act_of(alloc: Global, happened: List<What>) -> Act
 pub fn coordinator_crashes_in(
     part: &mut Part<Coordinator>,
     alloc: Global,
+    spares: &mut Spares,
     scenario: &Scenario,
     txn: TxnId,
     mail: &Mail,
@@ -466,10 +483,12 @@ pub fn coordinator_crashes_in(
     ensures log { OnErr result (part.new.log ≡ part.old.log) }
 {
     let Some(coordinator) = &mut part.up else {
-        return crash_alone(alloc, Actor::Coordinator(txn));
+        return crash_alone(alloc, &mut spares.facts, Actor::Coordinator(txn));
     };
-    let append = coordinator.receive(alloc, scenario, mail)?.append;
-    let happened = coordinator_cut_facts(alloc, txn, cut, &append);
+    let append = coordinator
+        .receive(alloc, &mut spares.letters, scenario, mail)?
+        .append;
+    let happened = coordinator_cut_facts(alloc, &mut spares.facts, txn, cut, &append);
     match torn(part, alloc, &append, happened, cut) {
         Ok(happened) => Ok((act_of(alloc, happened), append)),
         Err(NoMemory) => {
@@ -489,6 +508,7 @@ fn is_kept(cut: Cut) -> bool
 /// What happened where a server crashed in a receipt: its crash, and what its log then tells.
 fn server_cut_facts(
     alloc: Global,
+    spare: &mut Spare<What>,
     at: ServerId,
     cut: Cut,
     append: &Option<Record>,
@@ -496,7 +516,7 @@ fn server_cut_facts(
     ensures { IfOk result (λ facts. facts ≡ what.Crashed (actor.Server at)
         ∷ option_map_or (machine.server_fact at) (machine.cut_record cut append.now) []) }
 {
-    let mut happened = List::of_one(alloc, What::Crashed(Actor::Server(at)))?;
+    let mut happened = spare.list_of(alloc, What::Crashed(Actor::Server(at)))?;
     match append {
         Some(Record::Settled(settled)) if is_kept(cut) => {
             happened.push(What::Settled(at, settled.txn, settled.outcome))?;
@@ -509,6 +529,7 @@ fn server_cut_facts(
 /// The same of a coordinator.
 fn coordinator_cut_facts(
     alloc: Global,
+    spare: &mut Spare<What>,
     txn: TxnId,
     cut: Cut,
     append: &Option<Record>,
@@ -518,9 +539,9 @@ fn coordinator_cut_facts(
 {
     let crash = What::Crashed(Actor::Coordinator(txn));
     if is_kept(cut) {
-        with_decision(alloc, crash, append)
+        with_decision(alloc, spare, crash, append)
     } else {
-        List::of_one(alloc, crash)
+        spare.list_of(alloc, crash)
     }
 }
 
@@ -595,6 +616,7 @@ pub fn coordinator_boots(
 
 fn server_facts(
     alloc: Global,
+    spare: &mut Spare<What>,
     at: ServerId,
     append: &Option<Record>,
 ) -> Result<List<What>, NoMemory>
@@ -602,7 +624,7 @@ fn server_facts(
 {
     match append {
         Some(Record::Settled(settled)) => {
-            List::of_one(alloc, What::Settled(at, settled.txn, settled.outcome))
+            spare.list_of(alloc, What::Settled(at, settled.txn, settled.outcome))
         }
         _ => Ok(List::new(alloc)),
     }
@@ -613,6 +635,7 @@ fn server_facts(
 fn forced_with_room<S: Drop>(
     part: &mut Part<S>,
     alloc: Global,
+    spare: &mut Spare<What>,
     append: &Option<Record>,
 ) -> Result<Vec<What>, NoMemory>
     requires { IfSome append.now FitsLog }
@@ -623,7 +646,7 @@ fn forced_with_room<S: Drop>(
     ensures room { IfOk result (λ room. acts.decisions append.now ≤ vec_capacity room) }
     ensures err { OnErr result (part.new ≡ part.old) }
 {
-    let room = Vec::with_capacity(alloc, decisions(append))?;
+    let room = spare.room(alloc, decisions(append))?;
     match part.force(alloc, append) {
         Ok(()) => Ok(room),
         Err(NoMemory) => {
@@ -671,15 +694,17 @@ fn coordinator_facts(alloc: Global, append: &Option<Record>) -> Result<List<What
 }
 
 /// What happened first, and the decision that the log gains if there is one.
+#[inline(always)]
 fn with_decision(
     alloc: Global,
+    spare: &mut Spare<What>,
     first: What,
     append: &Option<Record>,
 ) -> Result<List<What>, NoMemory>
     ensures { IfOk result (λ facts.
         facts ≡ first ∷ option_map_or machine.coordinator_fact append.now []) }
 {
-    let mut facts = List::of_one(alloc, first)?;
+    let mut facts = spare.list_of(alloc, first)?;
     note_decision(alloc, &mut facts, append)?;
     Ok(facts)
 }

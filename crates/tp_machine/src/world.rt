@@ -19,6 +19,7 @@ use crate::acts::{act, act_untold, is_armed, is_submitted, refusal};
 use crate::error::StepError;
 use crate::history::History;
 use crate::opening::Opening;
+use crate::spares::Spares;
 use std::alloc::Global;
 use std::marker::Model;
 use std::sync::ledger::Ledger;
@@ -39,6 +40,7 @@ pub struct World {
     given_up: bool,
     actors: Actors,
     history: History,
+    spares: Spares,
 }
 
 impl Model for World {
@@ -92,6 +94,7 @@ impl World {
             given_up: false,
             actors,
             history,
+            spares: Spares::new(alloc),
         })
     }
 
@@ -113,6 +116,7 @@ impl World {
                 &mut self.actors,
                 &mut self.history,
                 alloc,
+                &mut self.spares,
                 &self.scenario,
                 &self.opening,
                 taken,
@@ -150,6 +154,7 @@ impl World {
                 &mut self.actors,
                 &mut self.history,
                 alloc,
+                &mut self.spares,
                 &self.scenario,
                 &self.opening,
                 taken,

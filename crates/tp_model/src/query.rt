@@ -76,7 +76,8 @@ pub fn servers_of(
     requires { length scenario.now.servers < 2 ^ 32 }
     ensures { IfOk result (λ made. made ≡ queries.servers_of scenario.now txn.now) }
 {
-    let mut made = List::new(alloc);
+    let most = txn.queries.len().min(scenario.servers.len());
+    let mut made = List::from_vec(Vec::with_capacity(alloc, most)?);
     for server in 0..scenario.servers.len() as u32 {
         if has_query_at(scenario, server, txn.queries.as_slice()) {
             made.push(ServerId(server))?;

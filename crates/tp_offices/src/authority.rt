@@ -6,8 +6,8 @@ ghost use Rattle.tp_offices.specs.Authority as office;
 
 use std::alloc::Global;
 use tp_types::{
-    Actor, AskRequest, Body, CredId, Letter, List, Mail, NoMemory, Reaction, Scenario, TellReply,
-    ignored, none_for_each, sent_alone,
+    Actor, AskRequest, Body, CredId, Letter, List, Mail, NoMemory, Reaction, Scenario, Spare,
+    TellReply, ignored, none_for_each, sent_alone,
 };
 
 /// A clock stays below this, in ticks.
@@ -51,17 +51,27 @@ impl Authority {
     }
 
     /// What the authority does on receipt of a mail. Its state stays.
-    pub fn receive(&self, alloc: Global, mail: &Mail) -> Result<Reaction, NoMemory>
+    pub fn receive(
+        &self,
+        alloc: Global,
+        spare: &mut Spare<Letter>,
+        mail: &Mail,
+    ) -> Result<Reaction, NoMemory>
         ensures { IfOk result (λ reaction.
             Gives (office.authority_row self.now mail.now) self.now reaction) }
     {
         match &mail.letter.body {
-            Body::Ask(request) => self.tells(alloc, *request),
+            Body::Ask(request) => self.tells(alloc, spare, *request),
             _ => Ok(ignored(alloc)),
         }
     }
 
-    fn tells(&self, alloc: Global, request: AskRequest) -> Result<Reaction, NoMemory>
+    fn tells(
+        &self,
+        alloc: Global,
+        spare: &mut Spare<Letter>,
+        request: AskRequest,
+    ) -> Result<Reaction, NoMemory>
         ensures { IfOk result (λ reaction.
             Gives (office.tells self.now request) self.now reaction) }
     {
@@ -76,7 +86,7 @@ impl Authority {
             to: Actor::Coordinator(request.txn),
             body: Body::Tell(told),
         };
-        sent_alone(alloc, letter)
+        sent_alone(alloc, spare, letter)
     }
 }
 

@@ -6,7 +6,7 @@ ghost use Rattle.tp_offices.specs.Master as office;
 use std::alloc::Global;
 use tp_types::{
     Actor, Admin, AdminId, Body, Letter, List, Mail, NewestReply, NoMemory, ProbeRequest,
-    PushNotice, Reaction, Scenario, ServerId, TryClone, Version, ignored, sent_alone,
+    PushNotice, Reaction, Scenario, ServerId, Spare, TryClone, Version, ignored, sent_alone,
 };
 
 /// The master's state.
@@ -63,6 +63,7 @@ impl Master {
     pub fn push(
         &self,
         alloc: Global,
+        spare: &mut Spare<Letter>,
         admin: AdminId,
         server: ServerId,
     ) -> Result<Reaction, NoMemory>
@@ -77,21 +78,31 @@ impl Master {
                 version: version_in(&self.newest, admin),
             }),
         };
-        sent_alone(alloc, letter)
+        sent_alone(alloc, spare, letter)
     }
 
     /// What the master does on receipt of a mail. Its state stays.
-    pub fn receive(&self, alloc: Global, mail: &Mail) -> Result<Reaction, NoMemory>
+    pub fn receive(
+        &self,
+        alloc: Global,
+        spare: &mut Spare<Letter>,
+        mail: &Mail,
+    ) -> Result<Reaction, NoMemory>
         ensures { IfOk result (λ reaction.
             Gives (office.master_row self.now mail.now) self.now reaction) }
     {
         match &mail.letter.body {
-            Body::Probe(request) => self.tells(alloc, *request),
+            Body::Probe(request) => self.tells(alloc, spare, *request),
             _ => Ok(ignored(alloc)),
         }
     }
 
-    fn tells(&self, alloc: Global, request: ProbeRequest) -> Result<Reaction, NoMemory>
+    fn tells(
+        &self,
+        alloc: Global,
+        spare: &mut Spare<Letter>,
+        request: ProbeRequest,
+    ) -> Result<Reaction, NoMemory>
         ensures { IfOk result (λ reaction.
             Gives (office.tells self.now request) self.now reaction) }
     {
@@ -105,7 +116,7 @@ impl Master {
             to: Actor::Coordinator(request.txn),
             body: Body::Newest(told),
         };
-        sent_alone(alloc, letter)
+        sent_alone(alloc, spare, letter)
     }
 }
 

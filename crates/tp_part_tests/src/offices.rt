@@ -4,7 +4,7 @@ use crate::small_scenario::small;
 use tp_offices::{Authority, Master};
 use tp_types::{
     Actor, AdminId, AskRequest, Body, CredId, Letter, Mail, NoMemory, ProbeRequest, PushNotice,
-    Reaction, ServerId, TxnId, Version,
+    Reaction, ServerId, Spare, TxnId, Version,
 };
 
 /// A mail from the coordinator of the second transaction.
@@ -97,7 +97,11 @@ fn plays(rt: &impl AllocGlobal, authority: &mut Authority, act: &Act) -> bool {
         }
         Act::Tells(clock, revoked) => {
             let asked = mail(Actor::Authority, Body::Ask(ASKED));
-            is_told(authority.receive(rt.alloc(), &asked), *clock, *revoked)
+            is_told(
+                authority.receive(rt.alloc(), &mut Spare::new(rt.alloc()), &asked),
+                *clock,
+                *revoked,
+            )
         }
     }
 }
@@ -112,7 +116,7 @@ fn tells_the_clock_and_the_revocations_in_order(rt: HostRuntime) {
         assert_case(&rt, at, plays(&rt, &mut authority, act));
     }
     let probed = mail(Actor::Master, Body::Probe(PROBED));
-    let ignores = is_nothing(authority.receive(rt.alloc(), &probed));
+    let ignores = is_nothing(authority.receive(rt.alloc(), &mut Spare::new(rt.alloc()), &probed));
     drop(probed);
     drop(authority);
     assert!(rt; ignores);
@@ -171,18 +175,26 @@ fn publishes_up_to_the_last_version(rt: HostRuntime) {
     let mut master = opened.expect(&rt, "memory for a master");
     let probed = mail(Actor::Master, Body::Probe(PROBED));
     let opens = is_newest(
-        master.receive(rt.alloc(), &probed),
+        master.receive(rt.alloc(), &mut Spare::new(rt.alloc()), &probed),
         &[Version(3), Version(1)],
     );
     let publishes = publishes(&mut master);
     let tells = is_newest(
-        master.receive(rt.alloc(), &probed),
+        master.receive(rt.alloc(), &mut Spare::new(rt.alloc()), &probed),
         &[Version(5), Version(1)],
     );
     drop(probed);
-    let pushes = is_pushed(master.push(rt.alloc(), AdminId(0), ServerId(1)), Version(5));
+    let pushes = is_pushed(
+        master.push(
+            rt.alloc(),
+            &mut Spare::new(rt.alloc()),
+            AdminId(0),
+            ServerId(1),
+        ),
+        Version(5),
+    );
     let asked = mail(Actor::Authority, Body::Ask(ASKED));
-    let ignores = is_nothing(master.receive(rt.alloc(), &asked));
+    let ignores = is_nothing(master.receive(rt.alloc(), &mut Spare::new(rt.alloc()), &asked));
     drop(asked);
     drop(master);
     assert!(rt; opens && publishes && tells && pushes && ignores);

@@ -1,7 +1,7 @@
 //! Lists, names, numbers, and two answers together.
 use crate::made::assert_case;
 use std::process::Abort;
-use tp_types::{List, Name, NoMemory, TryClone, both, is_name, number_of};
+use tp_types::{List, Name, NoMemory, Spare, TryClone, both, is_name, number_of};
 
 /// 7, 8 and 9.
 fn three(rt: &(impl Abort + AllocGlobal)) -> List<i128> {
@@ -41,6 +41,28 @@ fn lists_hold_their_members(rt: HostRuntime) {
     let members = made.into_vec();
     assert!(rt; equals && is_put && is_cut && members.len() == 1);
     assert!(rt; has(&List::new(rt.alloc()), &[]));
+}
+
+/// A list of one member, whose memory is kept.
+fn is_made(rt: &(impl Abort + AllocGlobal), spare: &mut Spare<i128>, member: i128) -> bool {
+    let made = spare
+        .list_of(rt.alloc(), member)
+        .expect(rt, "memory for a list");
+    let holds = has(&made, &[member]);
+    spare.keep(made);
+    holds
+}
+
+#[test]
+fn lists_follow_one_another_in_spare_memory(rt: HostRuntime) {
+    let mut spare = Spare::new(rt.alloc());
+    let first = is_made(&rt, &mut spare, 7);
+    let second = is_made(&rt, &mut spare, 8);
+    spare.keep(three(&rt));
+    let third = is_made(&rt, &mut spare, 9);
+    let room = spare.room(rt.alloc(), 5).expect(&rt, "memory for five");
+    assert!(rt; first && second && third);
+    assert!(rt; room.is_empty() && room.capacity() >= 5);
 }
 
 #[test]

@@ -93,6 +93,7 @@ impl<T: Drop> Places<T> {
     }
 
     /// Puts a value at a place. Where there is no such place the table stays, and the value is dropped.
+    #[inline(always)]
     pub fn put(&mut self, at: usize, value: T) -> Result<(), NoMemory>
         ensures ok { OnOk result (self.new ≡ slice_set self.old at (Some value)) }
         ensures err { OnErr result (self.new ≡ self.old) }

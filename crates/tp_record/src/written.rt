@@ -11,7 +11,7 @@ use tp_types::NoMemory;
 const USUAL: usize = 256;
 
 /// How many bytes of room are made behind those that are asked for.
-const BEYOND: usize = 1024;
+const BEYOND: usize = 512;
 
 /// Puts a count into the first four bytes.
 #[tactic(auto, unfolding(crate::specs::Spelling::short))]

@@ -1,3 +1,4 @@
+pub mod Begun
 pub mod Booted
 pub mod Evaluation
 pub mod Opened

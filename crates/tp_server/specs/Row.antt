@@ -22,6 +22,7 @@ use Rattle.tp_model.specs.Authorisation.{action_of}
 use Rattle.tp_model.specs.Deeds.{deed_of}
 use Rattle.tp_server.specs.declared.server.Ballot.{Ballot}
 use Rattle.tp_server.specs.declared.server.Entry.{Entry}
+use Rattle.tp_server.specs.Begun.{begun}
 use Rattle.tp_server.specs.State.{Server}
 use Rattle.tp_server.specs.Verdicts.{admin_of, verdict_on, verdicts_on, version_known, with_pin, with_wants}
 use Rattle.tp_store.specs.Contents.{Contents}
@@ -56,14 +57,7 @@ age_of q sent = unwrap_or q.age sent
 
 -- the entry of a transaction that has done nothing here yet
 abbrev pub new_entry : Server → ℕ → Entry
-new_entry s age = record {
-  age = age;
-  epoch = s.epoch;
-  answers = [];
-  waiting = None;
-  deeds = [];
-  ballot = None;
-}
+new_entry s age = begun age s.epoch
 
 -- ---- a query runs
 

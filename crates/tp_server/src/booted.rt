@@ -163,7 +163,7 @@ fn entries_of(alloc: Global, table: &Places<Prepared>) -> Result<Entries, NoMemo
     ensures { IfOk result (λ made. made ≡ map (option_map booted.restored) table.now) }
 {
     let made = boxes_of(alloc, table.made())?;
-    Ok(Entries::from_made(table.count(), made))
+    Ok(Entries::from_made(alloc, table.count(), made))
 }
 
 fn keep_deed(store: &mut Store, alloc: Global, txn: TxnId, deed: &Deed) -> Result<(), NoMemory>

@@ -10,13 +10,14 @@ use std::alloc::Global;
 use tp_lock::LockTable;
 use tp_types::{
     AckReply, Body, DecideRequest, Letter, List, NoMemory, Outcome, Reaction, Record, Scenario,
-    Settled, TxnId, ignored, sent_alone,
+    Settled, Spare, TxnId, ignored, sent_alone,
 };
 
 impl<L: LockTable + Drop> Server<L> {
     pub(crate) fn on_decide(
         &mut self,
         alloc: Global,
+        spare: &mut Spare<Letter>,
         scenario: &Scenario,
         request: DecideRequest,
     ) -> Result<Reaction, NoMemory>
@@ -25,7 +26,7 @@ impl<L: LockTable + Drop> Server<L> {
             Gives (row.on_decide scenario.now self.old request) self.new reaction) }
     {
         if !self.is_open(request.txn) {
-            return self.on_settled_decide(alloc, request);
+            return self.on_settled_decide(alloc, spare, request);
         }
         let settled = Settled {
             txn: request.txn,
@@ -33,11 +34,16 @@ impl<L: LockTable + Drop> Server<L> {
             why: None,
         };
         let letter = self.ack_letter(request.txn);
-        self.ends(alloc, scenario, settled, letter)
+        self.ends(alloc, spare, scenario, settled, letter)
     }
 
     /// An order to end what may be settled already.
-    fn on_settled_decide(&self, alloc: Global, request: DecideRequest) -> Result<Reaction, NoMemory>
+    fn on_settled_decide(
+        &self,
+        alloc: Global,
+        spare: &mut Spare<Letter>,
+        request: DecideRequest,
+    ) -> Result<Reaction, NoMemory>
         ensures { IfOk result (λ reaction.
             Gives
             (row.on_settled_decide self.now request
@@ -47,7 +53,7 @@ impl<L: LockTable + Drop> Server<L> {
         match self.settled.get(request.txn.0 as usize) {
             Some(_) => {
                 let letter = self.ack_letter(request.txn);
-                sent_alone(alloc, letter)
+                sent_alone(alloc, spare, letter)
             }
             None => Ok(ignored(alloc)),
         }
@@ -64,6 +70,7 @@ impl<L: LockTable + Drop> Server<L> {
     pub(crate) fn ends(
         &mut self,
         alloc: Global,
+        spare: &mut Spare<Letter>,
         scenario: &Scenario,
         settled: Settled,
         letter: Letter,
@@ -77,7 +84,7 @@ impl<L: LockTable + Drop> Server<L> {
         self.settled.put(at, settled)?;
         self.entries.clear(at);
         self.locks.release(settled.txn);
-        let mut letters = List::of_one(alloc, letter)?;
+        let mut letters = spare.list_of(alloc, letter)?;
         while let Some(grant) = self.locks.take_granted() {
             self.resumes(alloc, scenario, grant.owner, &mut letters)?;
         }

@@ -1,5 +1,6 @@
 //! The entries of transactions at a server, by number.
-ghost use Rattle.std.specs.Prelude.{◌≡◌, Some, None, replicate, slice_get, slice_set, map, option_map, OnOk, OnErr};
+ghost use Rattle.std.specs.Prelude.{◌≡◌, Some, None, replicate, slice_get, slice_set, map, option_map, IfOk, OnOk, OnErr};
+ghost use Rattle.tp_server.specs.Begun.{begun};
 ghost use Rattle.std.specs.Option.{option_copied, option_flatten};
 ghost use Rattle.tp_places.specs.Padded.{padded};
 
@@ -7,13 +8,15 @@ use crate::server::Entry;
 use std::alloc::Global;
 use std::marker::Model;
 use tp_places::Places;
-use tp_types::{List, NoMemory};
+use tp_types::{List, NoMemory, Place};
 
 /// The entry of each transaction of the scenario, if it has one. An entry stands in a box, since most transactions have
 /// none here and entries are moved often.
 #[derive(Drop)]
 pub struct Entries {
     places: Places<Box<Entry, Global>>,
+    /// Entries that have ended, for the memory of those that begin.
+    ended: List<Box<Entry, Global>>,
 }
 
 impl Model for Entries {
@@ -33,15 +36,17 @@ impl Entries {
     {
         Entries {
             places: Places::none(alloc, count),
+            ended: List::new(alloc),
         }
     }
 
     /// These places, and places without an entry behind them up to so many in all.
-    pub fn from_made(count: usize, made: List<Option<Box<Entry, Global>>>) -> Entries
+    pub fn from_made(alloc: Global, count: usize, made: List<Option<Box<Entry, Global>>>) -> Entries
         ensures { result ≡ padded (map (option_map (λ b. b.value)) made) count }
     {
         Entries {
             places: Places::from_made(count, made),
+            ended: List::new(alloc),
         }
     }
 
@@ -74,11 +79,67 @@ impl Entries {
         self.places.take(at)
     }
 
-    /// Drops the entry at a place.
-    #[tactic(auto, using(crate::proofs::Tables::seen_put))]
+    /// Takes the entry at a place out, and keeps its memory. Where there is none for that the entry is dropped.
+    #[inline(always)]
     pub fn clear(&mut self, at: usize)
         ensures { self.new ≡ slice_set self.old at None }
     {
-        self.places.clear(at);
+        if let Some(entry) = self.take(at) {
+            keep(&mut self.ended, entry);
+        }
     }
+
+    /// The entry of a transaction that begins, in the memory of one that has ended if there is one. The table stays.
+    #[inline(always)]
+    pub fn begun(
+        &mut self,
+        alloc: Global,
+        age: Place,
+        epoch: u64,
+    ) -> Result<Box<Entry, Global>, NoMemory>
+        ensures begun { IfOk result (λ entry. entry.value ≡ begun age epoch) }
+        ensures same { self.new ≡ self.old }
+    {
+        match self.ended.pop() {
+            Some(mut entry) => {
+                renew(entry.as_mut(), age, epoch);
+                Ok(entry)
+            }
+            None => Ok(Box::new(alloc, new_entry(alloc, age, epoch))?),
+        }
+    }
+}
+
+/// Keeps an entry for its memory, or drops it where there is none for that.
+#[inline(always)]
+fn keep(ended: &mut List<Box<Entry, Global>>, entry: Box<Entry, Global>) {
+    match ended.push(entry) {
+        Ok(()) | Err(NoMemory) => {}
+    }
+}
+
+fn new_entry(alloc: Global, age: Place, epoch: u64) -> Entry
+    ensures { result ≡ begun age epoch }
+{
+    Entry {
+        age,
+        epoch,
+        answers: List::new(alloc),
+        waiting: None,
+        deeds: List::new(alloc),
+        ballot: None,
+    }
+}
+
+/// Makes an entry that of a transaction that begins. What stood in it is dropped.
+#[inline(always)]
+fn renew(entry: &mut Entry, age: Place, epoch: u64)
+    ensures { entry.new ≡ begun age epoch }
+{
+    entry.age = age;
+    entry.epoch = epoch;
+    entry.answers.truncate(0);
+    entry.waiting = None;
+    entry.deeds.truncate(0);
+    entry.ballot = None;
 }

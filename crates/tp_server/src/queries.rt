@@ -15,7 +15,7 @@ use tp_lock::{Asked, LockTable};
 use tp_model::{action_of, deed_of, item_of, query_at};
 use tp_types::{
     AdminId, Answer, Body, Deed, DoneReply, Letter, List, Newer, NoMemory, Place, Query,
-    QueryRequest, Reaction, Scenario, TryClone, TxnId, Verdict, Version, ignored, nothing,
+    QueryRequest, Reaction, Scenario, Spare, TryClone, TxnId, Verdict, Version, ignored, nothing,
     sent_alone,
 };
 
@@ -23,6 +23,7 @@ impl<L: LockTable + Drop> Server<L> {
     pub(crate) fn on_query(
         &mut self,
         alloc: Global,
+        spare: &mut Spare<Letter>,
         scenario: &Scenario,
         sent: Place,
         request: &QueryRequest,
@@ -35,28 +36,29 @@ impl<L: LockTable + Drop> Server<L> {
             return Ok(ignored(alloc));
         }
         let Some(entry) = self.entry_at(request.txn) else {
-            return self.on_first_query(alloc, scenario, sent, request);
+            return self.on_first_query(alloc, spare, scenario, sent, request);
         };
         if entry.ballot.is_some() {
             return Ok(ignored(alloc));
         }
         if names_another_epoch(entry, request) {
-            return self.restarts(alloc, request);
+            return self.restarts(alloc, spare, request);
         }
         if let Some(given) = answer_to(entry, request.query) {
             let given = given.try_clone(alloc)?;
-            return self.answers(alloc, request.txn, given);
+            return self.answers(alloc, spare, request.txn, given);
         }
         if entry.waiting.is_some() {
             return Ok(ignored(alloc));
         }
-        self.asks(alloc, scenario, sent, request)
+        self.asks(alloc, spare, scenario, sent, request)
     }
 
     /// A query of a transaction that has no entry.
     fn on_first_query(
         &mut self,
         alloc: Global,
+        spare: &mut Spare<Letter>,
         scenario: &Scenario,
         sent: Place,
         request: &QueryRequest,
@@ -68,15 +70,16 @@ impl<L: LockTable + Drop> Server<L> {
             self.new reaction) }
     {
         if request.epoch.is_some() {
-            return self.restarts(alloc, request);
+            return self.restarts(alloc, spare, request);
         }
-        self.asks(alloc, scenario, sent, request)
+        self.asks(alloc, spare, scenario, sent, request)
     }
 
     /// A query asks for the lock on its item.
     fn asks(
         &mut self,
         alloc: Global,
+        spare: &mut Spare<Letter>,
         scenario: &Scenario,
         sent: Place,
         request: &QueryRequest,
@@ -102,13 +105,13 @@ impl<L: LockTable + Drop> Server<L> {
         match asked {
             Asked::Granted => {
                 let letter = self.runs(alloc, scenario, sent, request, query, value)?;
-                sent_alone(alloc, letter)
+                sent_alone(alloc, spare, letter)
             }
             Asked::Waits => self.waits(alloc, sent, request),
             // an older transaction stands in the way
             Asked::Dies { other } => {
                 let letter = self.answers_with(alloc, sent, request, Answer::Died { other })?;
-                sent_alone(alloc, letter)
+                sent_alone(alloc, spare, letter)
             }
         }
     }
@@ -392,15 +395,8 @@ impl<L: LockTable + Drop> Server<L> {
         if let Some(entry) = self.entries.take(request.txn.0 as usize) {
             return Ok(entry);
         }
-        let entry = Entry {
-            age: request.age.unwrap_or(sent),
-            epoch: self.epoch,
-            answers: List::new(alloc),
-            waiting: None,
-            deeds: List::new(alloc),
-            ballot: None,
-        };
-        Ok(Box::new(alloc, entry)?)
+        self.entries
+            .begun(alloc, request.age.unwrap_or(sent), self.epoch)
     }
 
     fn keep(
@@ -423,20 +419,31 @@ impl<L: LockTable + Drop> Server<L> {
     }
 
     /// What the transaction did here was lost in an earlier epoch.
-    fn restarts(&self, alloc: Global, request: &QueryRequest) -> Result<Reaction, NoMemory>
+    fn restarts(
+        &self,
+        alloc: Global,
+        spare: &mut Spare<Letter>,
+        request: &QueryRequest,
+    ) -> Result<Reaction, NoMemory>
         ensures { IfOk result (λ reaction.
             Gives (row.restarts self.now request.now) self.now reaction) }
     {
         let restarted = reply_of(request, self.epoch, Answer::Restarted);
-        self.answers(alloc, request.txn, restarted)
+        self.answers(alloc, spare, request.txn, restarted)
     }
 
-    fn answers(&self, alloc: Global, txn: TxnId, given: DoneReply) -> Result<Reaction, NoMemory>
+    fn answers(
+        &self,
+        alloc: Global,
+        spare: &mut Spare<Letter>,
+        txn: TxnId,
+        given: DoneReply,
+    ) -> Result<Reaction, NoMemory>
         ensures { IfOk result (λ reaction.
             Gives (row.answers self.now txn given) self.now reaction) }
     {
         let letter = self.reply(txn, Body::Done(given));
-        sent_alone(alloc, letter)
+        sent_alone(alloc, spare, letter)
     }
 }
 

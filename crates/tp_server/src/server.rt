@@ -16,7 +16,7 @@ use tp_places::Places;
 use tp_store::Store;
 use tp_types::{
     Actor, Body, Deed, DoneReply, Letter, List, Mail, NoMemory, Place, PushNotice, QueryRequest,
-    Reaction, Record, Scenario, ServerId, Settled, Told, TxnId, Verdict, ignored,
+    Reaction, Record, Scenario, ServerId, Settled, Spare, Told, TxnId, Verdict, ignored,
 };
 
 /// What a server voted YES on: the turn of the request, and its verdicts.
@@ -99,6 +99,7 @@ impl<L: LockTable + Drop> Server<L> {
     pub fn receive(
         &mut self,
         alloc: Global,
+        spare: &mut Spare<Letter>,
         scenario: &Scenario,
         mail: &Mail,
     ) -> Result<Reaction, NoMemory>
@@ -107,11 +108,11 @@ impl<L: LockTable + Drop> Server<L> {
             Gives (row.server_row scenario.now self.old mail.now) self.new reaction) }
     {
         match &mail.letter.body {
-            Body::Query(request) => self.on_query(alloc, scenario, mail.sent, request),
-            Body::Prepare(request) => self.on_prepare(alloc, scenario, request),
-            Body::Decide(request) => self.on_decide(alloc, scenario, *request),
+            Body::Query(request) => self.on_query(alloc, spare, scenario, mail.sent, request),
+            Body::Prepare(request) => self.on_prepare(alloc, spare, scenario, request),
+            Body::Decide(request) => self.on_decide(alloc, spare, scenario, *request),
             Body::Push(push) => Ok(self.on_push(alloc, *push)),
-            Body::Validate(request) => self.on_validate(alloc, scenario, request),
+            Body::Validate(request) => self.on_validate(alloc, spare, scenario, request),
             _ => Ok(ignored(alloc)),
         }
     }

@@ -10,14 +10,15 @@ use crate::verdicts::{learn, verdicts_on};
 use std::alloc::Global;
 use tp_lock::LockTable;
 use tp_types::{
-    Body, List, NoMemory, Reaction, Scenario, ValidateRequest, Verdict, VerdictsReply, ignored,
-    sent_alone,
+    Body, Letter, List, NoMemory, Reaction, Scenario, Spare, ValidateRequest, Verdict,
+    VerdictsReply, ignored, sent_alone,
 };
 
 impl<L: LockTable + Drop> Server<L> {
     pub(crate) fn on_validate(
         &mut self,
         alloc: Global,
+        spare: &mut Spare<Letter>,
         scenario: &Scenario,
         request: &ValidateRequest,
     ) -> Result<Reaction, NoMemory>
@@ -29,21 +30,22 @@ impl<L: LockTable + Drop> Server<L> {
             return Ok(ignored(alloc));
         }
         let Some(entry) = self.entry_at(request.txn) else {
-            return self.shows(alloc, request, None);
+            return self.shows(alloc, spare, request, None);
         };
         if entry.ballot.is_some() {
             return Ok(ignored(alloc));
         }
         if entry.epoch != request.epoch {
-            return self.shows(alloc, request, None);
+            return self.shows(alloc, spare, request, None);
         }
-        self.shows_deeds(alloc, scenario, request)
+        self.shows_deeds(alloc, spare, scenario, request)
     }
 
     /// Learns the versions that are wanted, and evaluates what the transaction did here.
     fn shows_deeds(
         &mut self,
         alloc: Global,
+        spare: &mut Spare<Letter>,
         scenario: &Scenario,
         request: &ValidateRequest,
     ) -> Result<Reaction, NoMemory>
@@ -65,13 +67,14 @@ impl<L: LockTable + Drop> Server<L> {
         };
         let deeds = entry.deeds.as_slice();
         let verdicts = verdicts_on(alloc, scenario, self, txn, &request.staple, want, deeds)?;
-        self.shows(alloc, request, Some(verdicts))
+        self.shows(alloc, spare, request, Some(verdicts))
     }
 
     /// The verdicts are sent; none where what was done here was lost.
     fn shows(
         &self,
         alloc: Global,
+        spare: &mut Spare<Letter>,
         request: &ValidateRequest,
         verdicts: Option<List<Verdict>>,
     ) -> Result<Reaction, NoMemory>
@@ -84,6 +87,6 @@ impl<L: LockTable + Drop> Server<L> {
             verdicts,
         };
         let letter = self.reply(request.txn, Body::Verdicts(shown));
-        sent_alone(alloc, letter)
+        sent_alone(alloc, spare, letter)
     }
 }

@@ -13,14 +13,15 @@ use std::alloc::Global;
 use tp_lock::LockTable;
 use tp_types::{
     Body, Letter, List, No, NoMemory, Outcome, PrepareRequest, Prepared, Reaction, Record,
-    Scenario, Settled, TryClone, TxnId, Verdict, Vote, VoteReply, both, forced_and_sent, ignored,
-    sent_alone,
+    Scenario, Settled, Spare, TryClone, TxnId, Verdict, Vote, VoteReply, both, forced_and_sent,
+    ignored, sent_alone,
 };
 
 impl<L: LockTable + Drop> Server<L> {
     pub(crate) fn on_prepare(
         &mut self,
         alloc: Global,
+        spare: &mut Spare<Letter>,
         scenario: &Scenario,
         request: &PrepareRequest,
     ) -> Result<Reaction, NoMemory>
@@ -29,26 +30,26 @@ impl<L: LockTable + Drop> Server<L> {
             Gives (row.on_prepare scenario.now self.old request.now) self.new reaction) }
     {
         if !self.is_open(request.txn) {
-            return self.on_settled_prepare(alloc, request);
+            return self.on_settled_prepare(alloc, spare, request);
         }
         let outside = self.store.first_outside(request.txn);
         let Some(entry) = self.entry_at(request.txn) else {
-            return self.refuses(alloc, scenario, request, No::Restarted);
+            return self.refuses(alloc, spare, scenario, request, No::Restarted);
         };
         if entry.epoch != request.epoch {
-            return self.refuses(alloc, scenario, request, No::Restarted);
+            return self.refuses(alloc, spare, scenario, request, No::Restarted);
         }
         if let Some(cast) = &entry.ballot {
             if cast.turn == request.turn {
-                return self.votes_again(alloc, request.txn, cast);
+                return self.votes_again(alloc, spare, request.txn, cast);
             }
             if request.turn < cast.turn {
                 return Ok(ignored(alloc));
             }
         } else if let Some((query, value)) = outside {
-            return self.refuses(alloc, scenario, request, No::Range { query, value });
+            return self.refuses(alloc, spare, scenario, request, No::Range { query, value });
         }
-        self.evaluates(alloc, scenario, request)
+        self.evaluates(alloc, spare, scenario, request)
     }
 
     /// Learns the versions that are wanted, and votes YES: with a staple on what the transaction did here, which is
@@ -56,6 +57,7 @@ impl<L: LockTable + Drop> Server<L> {
     fn evaluates(
         &mut self,
         alloc: Global,
+        spare: &mut Spare<Letter>,
         scenario: &Scenario,
         request: &PrepareRequest,
     ) -> Result<Reaction, NoMemory>
@@ -68,7 +70,7 @@ impl<L: LockTable + Drop> Server<L> {
     {
         let Some(staple) = &request.staple else {
             learn(&mut self.store, request.want.as_slice());
-            return self.votes_with(alloc, request, List::new(alloc));
+            return self.votes_with(alloc, spare, request, List::new(alloc));
         };
         let Some(txn) = scenario.txns.get(request.txn.0 as usize) else {
             return Ok(ignored(alloc));
@@ -80,13 +82,14 @@ impl<L: LockTable + Drop> Server<L> {
         };
         let deeds = entry.deeds.as_slice();
         let verdicts = verdicts_on(alloc, scenario, self, txn, staple, want, deeds)?;
-        self.votes_with(alloc, request, verdicts)
+        self.votes_with(alloc, spare, request, verdicts)
     }
 
     /// Votes YES with these verdicts, where the transaction has an entry.
     fn votes_with(
         &mut self,
         alloc: Global,
+        spare: &mut Spare<Letter>,
         request: &PrepareRequest,
         verdicts: List<Verdict>,
     ) -> Result<Reaction, NoMemory>
@@ -98,11 +101,17 @@ impl<L: LockTable + Drop> Server<L> {
             return Ok(ignored(alloc));
         };
         let forced = self.prepared(alloc, request, entry, verdicts)?;
-        self.votes(alloc, forced)
+        self.votes(alloc, spare, forced)
     }
 
     /// The vote YES of a ballot.
-    fn votes_again(&self, alloc: Global, txn: TxnId, cast: &Ballot) -> Result<Reaction, NoMemory>
+    fn votes_again(
+        &self,
+        alloc: Global,
+        spare: &mut Spare<Letter>,
+        txn: TxnId,
+        cast: &Ballot,
+    ) -> Result<Reaction, NoMemory>
         ensures { IfOk result (λ reaction.
             reaction
             ≡ record { append = None; letters = row.yes_letter self.now txn cast.now ∷ [] }) }
@@ -113,13 +122,14 @@ impl<L: LockTable + Drop> Server<L> {
             vote: Vote::Yes(cast.verdicts.try_clone(alloc)?),
         };
         let letter = self.reply(txn, Body::Vote(vote));
-        sent_alone(alloc, letter)
+        sent_alone(alloc, spare, letter)
     }
 
     /// A request to prepare what is settled already: a vote NO is given again with its reason.
     fn on_settled_prepare(
         &self,
         alloc: Global,
+        spare: &mut Spare<Letter>,
         request: &PrepareRequest,
     ) -> Result<Reaction, NoMemory>
         ensures { IfOk result (λ reaction.
@@ -132,7 +142,7 @@ impl<L: LockTable + Drop> Server<L> {
             Some(settled) => match settled.why {
                 Some(why) => {
                     let letter = self.no_letter(request, why);
-                    sent_alone(alloc, letter)
+                    sent_alone(alloc, spare, letter)
                 }
                 None => Ok(ignored(alloc)),
             },
@@ -155,6 +165,7 @@ impl<L: LockTable + Drop> Server<L> {
     fn refuses(
         &mut self,
         alloc: Global,
+        spare: &mut Spare<Letter>,
         scenario: &Scenario,
         request: &PrepareRequest,
         why: No,
@@ -169,7 +180,7 @@ impl<L: LockTable + Drop> Server<L> {
             why: Some(why),
         };
         let vote = self.no_letter(request, why);
-        self.ends(alloc, scenario, settled, vote)
+        self.ends(alloc, spare, scenario, settled, vote)
     }
 
     fn prepared(
@@ -199,7 +210,12 @@ impl<L: LockTable + Drop> Server<L> {
         })
     }
 
-    fn votes(&mut self, alloc: Global, forced: Prepared) -> Result<Reaction, NoMemory>
+    fn votes(
+        &mut self,
+        alloc: Global,
+        spare: &mut Spare<Letter>,
+        forced: Prepared,
+    ) -> Result<Reaction, NoMemory>
         ensures { IfOk result (λ reaction. (entry : Entry)
             → row.entry_at self.old forced.txn ≡ Some entry
             → Gives (row.casts self.old forced entry) self.new reaction) }
@@ -220,7 +236,7 @@ impl<L: LockTable + Drop> Server<L> {
             vote: Vote::Yes(sent),
         };
         let letter = self.reply(forced.txn, Body::Vote(vote));
-        forced_and_sent(alloc, Record::Prepared(forced), letter)
+        forced_and_sent(alloc, spare, Record::Prepared(forced), letter)
     }
 }
 

@@ -6,6 +6,8 @@
 //!   `into_vec`, `len`, `is_empty`, `as_slice`, `iter`, `get`, `get_mut`, `pop`, `put`, `of_one`, `truncate`,
 //!   each by its clauses)
 //! - A push adds the member at the end; where memory is refused the list stays (`List::push`: `ok`, `err`)
+//! - A list of one member is made in memory that an earlier list has left, if one has, and so is an empty vector with
+//!   room (`Spare::list_of`; `Spare::room`: `empty`, `room`)
 //! - A copy equals what it copies (`TryClone::try_clone`, which each type of scenarios, records, mails and
 //!   facts has)
 //! - Two answers taken together are both values, or the first failure (`both`: `ok`, `err`)
@@ -31,6 +33,7 @@ mod reaction;
 mod records;
 mod results;
 mod scenario;
+mod spare;
 mod spelling;
 mod table;
 
@@ -56,5 +59,6 @@ pub use scenario::{
     Actor, Admin, Credential, Cut, Item, Level, Operand, Query, Scenario, Scheme, ServerDecl, Step,
     Term, Transaction,
 };
+pub use spare::Spare;
 pub use spelling::{DIGITS_MAX, NAME_MAX, is_digit, is_letter, is_name_byte};
 pub use table::{none_for_each, take_at};

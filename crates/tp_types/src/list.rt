@@ -126,6 +126,7 @@ impl<T> List<T> {
 
 impl<T: Drop> List<T> {
     /// Adds a member at the end. Where memory is refused the list stays, and the member is dropped.
+    #[inline(always)]
     pub fn push(&mut self, value: T) -> Result<(), NoMemory>
         ensures ok { OnOk result (self.new ≡ self.old ++ value ∷ []) }
         ensures err { OnErr result (self.new ≡ self.old) }

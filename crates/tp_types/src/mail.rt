@@ -59,6 +59,7 @@ pub enum Answer {
 }
 
 impl TryClone for Answer {
+    #[inline(always)]
     fn try_clone(&self, alloc: Global) -> Result<Self, NoMemory> {
         match self {
             Answer::Ran { value, verdict } => Ok(Answer::Ran {

@@ -4,6 +4,7 @@ ghost use Rattle.std.specs.Prelude.{◌≡◌, Some, None, [], ◌∷◌, IfOk};
 use crate::list::{List, NoMemory};
 use crate::mail::{Letter, Reaction};
 use crate::records::Record;
+use crate::spare::Spare;
 use std::alloc::Global;
 
 /// Nothing is logged or sent.
@@ -24,10 +25,14 @@ pub fn ignored(alloc: Global) -> Reaction
 }
 
 /// One letter is sent.
-pub fn sent_alone(alloc: Global, letter: Letter) -> Result<Reaction, NoMemory>
+pub fn sent_alone(
+    alloc: Global,
+    spare: &mut Spare<Letter>,
+    letter: Letter,
+) -> Result<Reaction, NoMemory>
     ensures { IfOk result (λ reaction. reaction ≡ record { append = None; letters = letter ∷ [] }) }
 {
-    let letters = List::of_one(alloc, letter)?;
+    let letters = spare.list_of(alloc, letter)?;
     Ok(Reaction {
         append: None,
         letters,
@@ -35,12 +40,17 @@ pub fn sent_alone(alloc: Global, letter: Letter) -> Result<Reaction, NoMemory>
 }
 
 /// A record is forced, and then one letter is sent.
-pub fn forced_and_sent(alloc: Global, forced: Record, letter: Letter) -> Result<Reaction, NoMemory>
+pub fn forced_and_sent(
+    alloc: Global,
+    spare: &mut Spare<Letter>,
+    forced: Record,
+    letter: Letter,
+) -> Result<Reaction, NoMemory>
     ensures { IfOk result (λ reaction.
         reaction ≡ record { append = Some forced; letters = letter ∷ [] }) }
 {
     Ok(Reaction {
         append: Some(forced),
-        letters: List::of_one(alloc, letter)?,
+        letters: spare.list_of(alloc, letter)?,
     })
 }
