@@ -11,7 +11,7 @@ ghost use Rattle.tp_auto.specs.mirrors.Ups.{KnowsUp};
 
 use std::alloc::Global;
 use tp_machine::World;
-use tp_types::{Actor, NoMemory, Scenario, ServerId, Step, TxnId};
+use tp_types::{Actor, NoMemory, Scenario, ServerId, Step, TxnId, Uncounted};
 
 /// The lowest transaction that is not submitted.
 #[tactic(auto, using(crate::proofs::BoundLemmas::few_txns_valid))]
@@ -105,7 +105,7 @@ fn next_running(world: &World, cursor: u32) -> Option<Step>
     ensures ids { IfSome result (IsStepOf world.now.scenario) }
     ensures allowed { IfSome result (λ step. refusal world.now.machine.state step ≡ None) }
 {
-    match world.first_undelivered() {
+    match world.oldest(&mut Uncounted) {
         Some(mail) => Some(Step::Deliver { mail }),
         None => match lowest_unsubmitted(world) {
             Some(txn) => Some(Step::Submit { txn }),
@@ -167,7 +167,7 @@ pub fn cursor_after(scenario: &Scenario, taken: &Step, cursor: u32) -> u32
 /// Takes automatic steps until the world is quiet, or memory is refused. No bound is counted: that the world comes to
 /// be quiet, and within the bound, is proved. A world that was given up before stays as it is. Who is down is looked
 /// for at the first step and after each boot alone, as no other automatic step takes an actor down.
-pub fn drain(world: &mut World, alloc: Global) -> Result<(), NoMemory>
+pub fn drain(alloc: Global, world: &mut World) -> Result<(), NoMemory>
     ensures quiet { OnOk result (is_quiet world.new.scenario world.new.machine ≡ true) }
     ensures steps { OnOk result (Drains world.old world.new) }
     ensures few { length world.new.machine.state.steps

@@ -7,12 +7,11 @@ use crate::ask::{Ask, add, adds, answer, entries, look};
 use crate::leave::leave;
 use crate::links::Pool;
 use crate::room::opened;
-use crate::tally::Uncounted;
 use std::alloc::Global;
 use std::marker::Model;
 use std::sync::ledger::Ledger;
 use tp_lock::{Asked, Grant, LockEntry, LockTable};
-use tp_types::{Action, ItemId, List, NoMemory, Place, Steps, TxnId};
+use tp_types::{Action, ItemId, List, NoMemory, Place, Steps, TxnId, Uncounted};
 
 /// Locks on items, as nodes in rings: each entry is a node of the ring of its item and of that of its owner.
 #[derive(Drop)]

@@ -5,9 +5,8 @@ ghost use Rattle.tp_lock_chain.specs.mirrors.Leave as mirror;
 
 use crate::ask::is_write;
 use crate::links::{Kind, Pool, Spot, links, move_to, node_at, set_entry, unlink};
-use crate::tally::Tally;
 use tp_lock::{Grant, LockEntry};
-use tp_types::{Action, ItemId, TxnId};
+use tp_types::{Action, ItemId, Tally, TxnId};
 
 /// The owners of the entries of a list up to here.
 #[derive(Clone, Copy)]

@@ -45,6 +45,5 @@ mod ends;
 mod leave;
 mod links;
 mod room;
-mod tally;
 
 pub use chain::ChainLocks;

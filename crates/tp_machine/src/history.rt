@@ -7,7 +7,9 @@ ghost use Rattle.tp_machine.specs.Machine.{facts_of, mails_of};
 use crate::spares::Spares;
 use std::alloc::Global;
 use tp_pending::Pending;
-use tp_types::{Fact, Letter, List, Mail, NoMemory, Place, Scenario, Spare, Step, What, both};
+use tp_types::{
+    Fact, Letter, List, Mail, NoMemory, Place, Scenario, Spare, Step, Tally, What, both,
+};
 
 /// The steps, facts and mails of a run so far.
 #[derive(Drop)]
@@ -55,22 +57,15 @@ impl History {
     }
 
     /// The least number of a pending mail, or None exactly where there is none.
-    pub fn first_pending(&self) -> Option<u64>
+    pub fn first_pending<T: Tally>(&self, tally: &mut T) -> Option<u64>
         ensures value { result ≡ slice_get (marked 0 self.now.pending) 0 }
         ensures sent { IfSome result (λ mail. mail < length self.now.mails) }
+        ensures counted { T.counted tally.new ≤ T.counted tally.old + 1 }
     {
-        match self.pending.first() {
+        match self.pending.first(tally) {
             None => None,
             Some(number) => Some(number as u64),
         }
-    }
-
-    /// How many mails are pending.
-    pub fn pending_count(&self) -> u64
-        ensures value { result ≡ length (marked 0 self.now.pending) }
-        ensures few { result ≤ length self.now.mails }
-    {
-        self.pending.count() as u64
     }
 
     /// Adds a step with what happened in it and its letters, which become mails, and keeps the memory of both lists. Where memory

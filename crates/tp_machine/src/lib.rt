@@ -14,14 +14,14 @@
 //! - A world that is not given up is the machine of its scenario after the steps that it shows; its scenario is
 //!   valid, its steps name what exists, and its facts are those that they give, also of a world that is given
 //!   up (`World::facts`: `reached`, `valid`, `named`, `of_steps`; `World::scenario`: `valid`)
-//! - The views show the machine (`World::facts` and `scenario`: `value`; `mails`; `undelivered_count`: `value`;
+//! - The views show the machine (`World::facts` and `scenario`: `value`; `mails`,
 //!   `steps`, `given_up`, `down`, `undelivered`, `is_submitted`, `armed`; `ending`: `value`)
 //! - Each mail, each server and coordinator that is up, and the records of each log are shown as the machine has them,
 //!   also those alone that a log gained since it ended at a place (`World::sent`, `server`, `coordinator`, `records`,
 //!   `log_end`, `records_behind`)
 //! - A crash in a receipt tells the record that this was to force (`World::step_with_cut`: `forced`; else as `step`)
-//! - The oldest undelivered mail is the first of the undelivered ones, and it was sent; it is told at one look
-//!   (`World::oldest`: `value`, `sent`, `counted`; `World::first_undelivered` without the count)
+//! - The oldest undelivered mail is the first of the undelivered ones, and it was sent; it is told by a visit of
+//!   at most one node (`World::oldest`: `value`, `sent`, `counted`)
 //!
 //! `World::start` asks that the scenario is valid (`valid`), and that no run of it makes a record that is too
 //! long for a log (`fit`), which holds of every such scenario (`tp_runs`); `World::step` that what the step names

@@ -22,12 +22,11 @@ use crate::opening::Opening;
 use crate::spares::Spares;
 use std::alloc::Global;
 use std::marker::Model;
-use std::sync::ledger::Ledger;
 use tp_coord::Coordinator;
 use tp_device::MemoryDisk;
 use tp_server::Server;
 use tp_types::{
-    Actor, Ending, Fact, List, Mail, NoMemory, Record, Scenario, ServerId, Step, Steps, TryClone,
+    Actor, Ending, Fact, List, Mail, NoMemory, Record, Scenario, ServerId, Step, Tally, TryClone,
     TxnId,
 };
 
@@ -233,31 +232,14 @@ impl World {
         self.history.is_pending(mail as usize)
     }
 
-    /// How many mails are undelivered. It takes a time in the number of all mails.
-    pub fn undelivered_count(&self) -> u64
-        ensures value { result ≡ length self.now.machine.undelivered }
-        ensures few { result ≤ length self.now.machine.state.mails }
-    {
-        self.history.pending_count()
-    }
-
-    /// The least number of an undelivered mail, or None exactly where there is none. It is one look at a chain by
-    /// index, whatever was delivered or lost in between.
-    pub fn first_undelivered(&self) -> Option<u64>
+    /// The least number of an undelivered mail, or None exactly where there is none. It takes at most one step: a step is a node
+    /// of the chain through the undelivered mails that is visited, whatever was delivered or lost in between.
+    pub fn oldest<T: Tally>(&self, tally: &mut T) -> Option<u64>
         ensures value { result ≡ slice_get self.now.machine.undelivered 0 }
         ensures sent { IfSome result (λ mail. mail < length self.now.machine.state.mails) }
+        ensures counted { T.counted tally.new ≤ T.counted tally.old + 1 }
     {
-        self.history.first_pending()
-    }
-
-    /// The same, with its one step counted: a step is a mail that is looked at.
-    pub fn oldest<L: Ledger>(&self, steps: &mut Steps<L>) -> Option<u64>
-        ensures value { result ≡ slice_get self.now.machine.undelivered 0 }
-        ensures sent { IfSome result (λ mail. mail < length self.now.machine.state.mails) }
-        ensures counted { steps.new ≤ steps.old + 1 }
-    {
-        steps.tick();
-        self.first_undelivered()
+        self.history.first_pending(tally)
     }
 
     /// Whether a transaction was submitted.

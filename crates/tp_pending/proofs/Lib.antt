@@ -1,2 +1,3 @@
-pub mod CursorLemmas
 pub mod FlagLemmas
+pub mod LinkLemmas
+pub mod RingLemmas

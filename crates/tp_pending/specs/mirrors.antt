@@ -1,1 +1,1 @@
-pub mod Cursor
+pub mod Ring

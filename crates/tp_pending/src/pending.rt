@@ -1,31 +1,29 @@
-//! Flags, and the cursor at the first that is set.
-ghost use Rattle.std.specs.Prelude.{◌≡◌, ◌<◌, ◌≤◌, ◌==◌, ◌++◌, ◌∷◌, ℕ, [], length, slice_get, slice_set, take, true, false, IfOk, IfSome, OnOk, OnErr};
+//! Numbers that are pending, and the ring of their nodes.
+ghost use Rattle.std.specs.Prelude.{◌≡◌, ◌<◌, ◌≤◌, ◌+◌, ◌-◌, ◌==◌, ◌++◌, ◌∷◌, ℕ, [], length, slice_get, slice_set, take, true, false, IfOk, IfSome, OnOk, OnErr};
 ghost use Rattle.std.specs.List.{list_any};
 ghost use Rattle.tp_pending.specs.Flags.{marked};
-ghost use Rattle.tp_pending.specs.mirrors.Cursor as mirror;
 
+use crate::nodes::{Node, end_alone, set_after, set_before, set_done, visited};
 use std::alloc::Global;
 use std::marker::Model;
-use tp_types::{List, NoMemory};
+use tp_types::{List, NoMemory, Tally, Uncounted};
 
 /// Which numbers are pending, of those that were posted.
 #[derive(Drop)]
 pub struct Pending {
-    /// Of each number, whether it is pending.
-    flags: List<bool>,
-    /// The least number that is pending, or how many were posted where none is.
-    first: usize,
+    /// The end of the ring, and then a node for each number that was posted.
+    nodes: List<Node>,
 }
 
 impl Model for Pending {
     ghost use Rattle.std.specs.Prelude.{Bool, List};
-    ghost use Rattle.tp_pending.specs.mirrors.Cursor.{IsFirstFrom};
+    ghost use Rattle.tp_pending.specs.mirrors.Ring.{IsRing, flags_of};
 
     ghost Value = { List Bool };
 
-    ghost view = { λ p. p.flags };
+    ghost view = { λ p. flags_of p.nodes };
 
-    ghost invariant = { λ p. IsFirstFrom 0 p.flags p.first };
+    ghost invariant = { λ p. IsRing p.nodes };
 }
 
 impl Pending {
@@ -33,63 +31,73 @@ impl Pending {
     pub fn new(alloc: Global, room: usize) -> Result<Pending, NoMemory>
         ensures { IfOk result (λ made. made ≡ []) }
     {
-        let flags = List::from_vec(Vec::with_capacity(alloc, room)?);
-        Ok(Pending { flags, first: 0 })
+        let mut nodes = List::from_vec(Vec::with_capacity(alloc, room.saturating_add(1))?);
+        nodes.push(end_alone())?;
+        Ok(Pending { nodes })
     }
 
     /// How many were posted.
     pub fn len(&self) -> usize
         ensures { result ≡ length self.now }
     {
-        self.flags.len()
+        self.nodes.len() - 1
     }
 
     /// Whether a number was posted and is pending.
     pub fn is_pending(&self, number: usize) -> bool
         ensures { result ≡ list_any (λ (other : ℕ). other == number) (marked 0 self.now) }
     {
-        match self.flags.get(number) {
+        if self.len() <= number {
+            return false;
+        }
+        match self.nodes.get(number + 1) {
             None => false,
-            Some(flag) => *flag,
+            Some(node) => node.pending,
         }
     }
 
-    /// The least number that is pending, or None exactly where there is none. It looks at the cursor alone.
-    pub fn first(&self) -> Option<usize>
+    /// The least number that is pending, or None exactly where there is none. It visits at most one node.
+    pub fn first<T: Tally>(&self, tally: &mut T) -> Option<usize>
         ensures value { result ≡ slice_get (marked 0 self.now) 0 }
         ensures posted { IfSome result (λ number. number < length self.now) }
+        ensures counted { T.counted tally.new ≤ T.counted tally.old + 1 }
     {
-        if self.first < self.flags.len() {
-            Some(self.first)
-        } else {
-            None
-        }
+        let node = visited(&self.nodes, 0, tally).after;
+        if node == 0 { None } else { Some(node - 1) }
     }
 
-    /// How many are pending. It goes through all flags.
-    pub fn count(&self) -> usize
-        ensures value { result ≡ length (marked 0 self.now) }
-        ensures few { result ≤ length self.now }
-    {
-        count_set(self.flags.as_slice())
-    }
-
-    /// Posts the next number, which is pending. Where memory is refused nothing changes.
+    /// Posts the next number, which is pending: its node is pushed, and the last one of the ring linked to it. Where memory is
+    /// refused nothing changes.
+    #[inline(always)]
     pub fn post(&mut self) -> Result<(), NoMemory>
         ensures ok { OnOk result (self.new ≡ self.old ++ true ∷ []) }
         ensures err { OnErr result (self.new ≡ self.old) }
     {
-        self.flags.push(true)
+        let node = self.nodes.len();
+        let last = visited(&self.nodes, 0, &mut Uncounted).before;
+        self.nodes.push(Node {
+            pending: true,
+            before: last,
+            after: 0,
+        })?;
+        set_after(&mut self.nodes, last, node);
+        set_before(&mut self.nodes, 0, node);
+        Ok(())
     }
 
-    /// Takes a number: it is pending no more. Where it was the first, the cursor goes on to the next that is pending.
-    /// It passes each flag once, so over a run the cost of a call is constant.
+    /// Takes a number: it is pending no more. Two links change, whatever else is pending.
     pub fn take(&mut self, number: usize)
         ensures { self.new ≡ slice_set self.old number false }
     {
-        self.flags.put(number, false);
-        if number == self.first {
-            self.first = first_from(self.flags.as_slice(), number);
+        if self.len() <= number {
+            return;
+        }
+        let at = number + 1;
+        let node = visited(&self.nodes, at, &mut Uncounted);
+        if node.pending {
+            set_after(&mut self.nodes, node.before, node.after);
+            set_before(&mut self.nodes, node.after, node.before);
+            set_done(&mut self.nodes, at);
         }
     }
 
@@ -97,33 +105,23 @@ impl Pending {
     pub fn cut(&mut self, count: usize)
         ensures { self.new ≡ take count self.old }
     {
-        self.flags.truncate(count);
-        self.first = self.first.min(count);
-    }
-}
-
-/// The place of the first flag that is set from a place on, or the count of flags where none is.
-fn first_from(flags: &[bool], from: usize) -> usize
-    ensures { mirror.IsFirstFrom from flags.now result }
-{
-    for at in from..flags.len() {
-        if flags[at] {
-            return at;
+        let posted = self.len();
+        if count < posted {
+            for _left in count..posted {
+                self.take_back();
+            }
         }
     }
-    flags.len()
-}
 
-/// How many flags are set.
-fn count_set(flags: &[bool]) -> usize
-    ensures value { result ≡ length (marked 0 flags.now) }
-    ensures few { result ≤ length flags.now }
-{
-    let mut count = 0usize;
-    for at in 0..flags.len() {
-        if flags[at] {
-            count += 1;
+    /// Takes back the last one that was posted, if there is one.
+    fn take_back(&mut self)
+        ensures { self.new ≡ take (length self.old - 1) self.old }
+    {
+        let posted = self.len();
+        if 0 < posted {
+            let last = posted - 1;
+            self.take(last);
+            self.nodes.truncate(posted);
         }
     }
-    count
 }

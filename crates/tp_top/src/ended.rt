@@ -50,7 +50,7 @@ fn settle(world: &mut World, alloc: Global) -> Result<RunEnd, NoMemory>
     ensures run { IfOk result (HasRun world.old.scenario world.new) }
     ensures kept { OnOk result (world.new.scenario ≡ world.old.scenario) }
 {
-    drain(world, alloc)?;
+    drain(alloc, world)?;
     Ok(RunEnd::AtRest)
 }
 

@@ -1,5 +1,5 @@
 //! Counts of steps that stand in contracts alone.
-ghost use Rattle.std.specs.Prelude.{◌≡◌, ◌+◌, ◌<◌, ℕ};
+ghost use Rattle.std.specs.Prelude.{◌≡◌, ◌≤◌, ◌+◌, ◌<◌, ℕ};
 
 use std::marker::Model;
 use std::sync::ledger::{Blank, Book, Ledger, Share};
@@ -38,4 +38,32 @@ impl<L: Ledger> Steps<L> {
     {
         self.book.add(&mut self.share, 1)
     }
+}
+
+/// Who counts the steps of a call, or does not. A call that takes one is written once, and its steps are counted where a caller
+/// asks for it.
+pub trait Tally {
+    ghost counted: { Self → ℕ };
+
+    /// One step, by which the count rises by at most one.
+    fn step(&mut self)
+        ensures { counted self.new ≤ counted self.old + 1 };
+}
+
+impl<L: Ledger> Tally for Steps<L> {
+    ghost counted = { λ steps. steps };
+
+    fn step(&mut self) {
+        self.tick();
+    }
+}
+
+/// No count. It has no bytes.
+#[derive(Drop)]
+pub struct Uncounted;
+
+impl Tally for Uncounted {
+    ghost counted = { λ none. 0 };
+
+    fn step(&mut self) {}
 }

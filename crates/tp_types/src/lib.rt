@@ -37,7 +37,7 @@ mod spare;
 mod spelling;
 mod table;
 
-pub use counted::Steps;
+pub use counted::{Steps, Tally, Uncounted};
 pub use fact::{Ending, Fact, What};
 pub use ids::{AdminId, CredId, ItemId, Place, ServerId, TxnId, Version};
 pub use list::{List, NoMemory, TryClone};

@@ -64,7 +64,7 @@ fn lets_time_pass_up_to_the_last_moment(rt: HostRuntime) {
 
 /// How many steps and mails there are once the world was drained, where no step is next in it.
 fn drained(rt: &impl AllocGlobal, world: &mut World) -> Option<(usize, u64)> {
-    match (drain(world, rt.alloc()), next(world, 0)) {
+    match (drain(rt.alloc(), world), next(world, 0)) {
         (Ok(()), None) => Some((world.steps().len(), world.mails())),
         _ => None,
     }
@@ -152,8 +152,14 @@ fn oldest_before_and_after_loss<L: Ledger>(
 fn knows_the_oldest_mail(rt: HostRuntime) {
     let mut world = start(&rt);
     assert!(rt; submit(&rt, &mut world));
+    let sent = world.undelivered(0);
+    let unsent = world.undelivered(1);
     let oldest = oldest_before_and_after_loss::<Brand>(&rt, &mut world, Blank::new(1));
+    let lost = world.undelivered(0);
     drop(world);
     assert_eq!(rt; oldest.0, Some(0));
     assert_eq!(rt; oldest.1, None);
+    assert!(rt; sent);
+    assert!(rt; !unsent);
+    assert!(rt; !lost);
 }
