@@ -21,7 +21,7 @@ module _ {D : Type 0} (state : D → DiskState) (left_since : D → D → List �
   IsStep call old result new = Step state left_since does faults call old result new
 
   -- as far as this a crash leaves no other image
-  record Far (old new : D) : Type 0 where
+  pub record Far (old new : D) : Type 0 where
     pub moments : LeavesOnly left_since old new (LeftOpening (state old))
     pub later : faults old ≤ faults new
 
@@ -166,3 +166,31 @@ module _ {D : Type 0} (state : D → DiskState) (left_since : D → D → List �
         moments = far.moments;
         fault = omega (arith, rose, step.cause.later, reads.later);
       }
+
+  -- ---- what is left by a refusal, whichever it is
+
+  pub sync_left : (old gone : D) (e : DiskError) → IsStep Sync old (Err e) gone → Far old gone
+  sync_left old gone errors.NoMemory step = absurd (step.effect)
+  sync_left old gone errors.Failed step =
+      far_step old old gone Sync (Err errors.Failed) (far_start old) step (λ image left. inl (subst (λ (s : DiskState). MayLeave s image) step.effect left))
+
+  pub read_left : (old first gone : D) → IsStep Sync old (Ok tt) first → Reads state left_since does faults first gone → Far old gone
+  read_left old first gone step reads = far_read old first gone step reads
+
+  module _ (old then : D) (at : state then ≡ after_sync (state old)) (few : length (state old).seen ≤ 1) (far : Far old then) where
+    settled_again : (d : D) → state d ≡ state then → (image : List ℕ) → MayLeave (state d) image → LeftOpening (state old) image
+    settled_again d same image left = settled_left old d (same ∙ at) image left
+
+    gate_memory : (new : D) → Steps state left_since does faults gate_calls then (Err errors.NoMemory) new → Far old new
+    gate_memory new (inr (errors.Failed, write, e)) = absurd (cc e)
+    gate_memory new (inr (errors.NoMemory, write, e)) = far_step old then new (Write 0 (0 ∷ [])) (Err errors.NoMemory) far write (settled_again new write.effect)
+    gate_memory new (inl (mid, write, inr (errors.Failed, sync, e))) = absurd (cc e)
+    gate_memory new (inl (mid, write, inr (errors.NoMemory, sync, e))) = absurd (sync.effect)
+    gate_memory new (inl (mid, write, inl (last, sync, none))) = absurd none
+
+  pub gate_left : (old first then gone : D) (e : DiskError) → IsStep Sync old (Ok tt) first → Reads state left_since does faults first then → length (state old).seen ≤ 1
+      → Steps state left_since does faults gate_calls then (Err e) gone → Far old gone
+  gate_left old first then gone errors.NoMemory step reads few steps =
+      gate_memory old then (reads.same ∙ step.effect) few (far_read old first then step reads) gone steps
+  gate_left old first then gone errors.Failed step reads few steps =
+      gate_refused old then (reads.same ∙ step.effect) few (far_read old first then step reads) gone steps

@@ -11,6 +11,9 @@
 //!   calls as of `Opens` up to one that was refused, the given disk leads to the one that is given back, of which
 //!   the count of faults rose. Whatever the cause, a read of a disk of more than one byte then gives what it gave:
 //!   a log that is refused is never wiped (`Log::opened`: `not_a_log`, `device`, `same`)
+//! - Whatever refused an opening, a crash at any moment of it leaves what it might have left before, or the bytes that a
+//!   read gives (of a disk of at most one byte: an image of at most one byte), and no count of faults fell
+//!   (`Log::opened`: `moments`, `later`)
 //! - Every image of bytes gives a list of records or fails at a place. It gives one list, which a function of
 //!   it finds, or fails at one place, and never both: so both answers are exact (`one_reading`: `some`;
 //!   `records`, `found`, `place`, `apart`)

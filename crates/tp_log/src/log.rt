@@ -43,12 +43,12 @@ impl<D: Disk> Model for Log<D> {
 }
 
 impl<D: Disk> Log<D> {
-    ghost use Rattle.std.specs.Prelude.{◌≡◌, ◌<◌, ℕ, List, length, Err, IfErr, IfOk};
+    ghost use Rattle.std.specs.Prelude.{◌≡◌, ◌<◌, ◌≤◌, ℕ, List, length, Err, IfErr, IfOk};
     ghost use Rattle.tp_types.specs.declared.records.Record.{Record};
     ghost use Rattle.tp_device.specs.Disks.{LeavesOnly, MayLeave};
     ghost use Rattle.tp_log.specs.Images.{FailsAt, Gives};
     ghost use Rattle.tp_log.specs.Logs.{AppendEffect, GivesEither, Keeps, MayKeep};
-    ghost use Rattle.tp_log.specs.Openings.{GivesUp, Opens};
+    ghost use Rattle.tp_log.specs.Openings.{GivesUp, LeftOpening, Opens};
     ghost use Rattle.tp_log.specs.Refusals.{IfNotALog};
 
     /// Opens the log that a disk holds, and gives its records. A disk of at most one byte gets a closed gate. What
@@ -66,6 +66,11 @@ impl<D: Disk> Log<D> {
         // Only where a call was refused, and a fault counted.
         ensures device { IfErr result (λ refused. refused.1 ≡ LogError.Device
             → GivesUp D.state D.left_since D.does D.faults disk refused.0) }
+        // Whatever refused it: a crash at any moment leaves what it might have left before, or the bytes that a read
+        // gives; of a disk of at most one byte an image of at most one byte. No count of faults fell.
+        ensures moments { IfErr result (λ refused.
+            LeavesOnly D.left_since disk refused.0 (LeftOpening (D.state disk))) }
+        ensures later { IfErr result (λ refused. D.faults disk ≤ D.faults refused.0) }
         // A read of a disk of more than one byte gives what it gave.
         ensures same { IfErr result (λ refused. 1 < length (D.state disk).seen
             → (D.state refused.0).seen ≡ (D.state disk).seen) }
