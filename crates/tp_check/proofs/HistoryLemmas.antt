@@ -10,7 +10,8 @@ use Rattle.tp_model.specs.Authorisation.{is_certified, is_usable, policy_at, rul
 use Rattle.tp_model.specs.Credentials.{holdings, holdings_in, is_presented, is_valid, is_valid_in, triples_in}
 use Rattle.tp_model.specs.Policies.{rule_allows}
 use Rattle.tp_model.specs.Queries.{item_of, query_at}
-use Rattle.tp_check.specs.OfHistory.{IsAt, holder_of, is_checked_of, is_verdict_checked}
+use Rattle.tp_check.specs.OfHistory.{IsAt, is_checked_of, is_verdict_checked}
+use Rattle.tp_cred.specs.Holder.{holder_of}
 
 pub valid_there : (sc : Scenario) (place : ℕ) (facts : List Fact) (now : ℕ) (revoked : List CredId) → IsAt sc place facts now revoked
     → (cred : CredId) → is_valid_in sc.creds now revoked cred ≡ is_valid sc place facts cred

@@ -5,7 +5,7 @@ use Rattle.tp_model.specs.Words.{Action, CredId, Fact, Policy, Scenario, Transac
 use Rattle.tp_model.specs.Authorisation.{is_certified, policy_at, tests_version}
 use Rattle.tp_model.specs.Credentials.{clock_at, holdings, holdings_in, is_among, is_presented, is_valid, is_valid_in, revoked_at}
 use Rattle.tp_cred.specs.Certificates.{is_checked}
-use Rattle.tp_cred.specs.Holder.{Holder}
+use Rattle.tp_cred.specs.Holder.{Holder, holder_of}
 
 -- the clock is that of the place, and those are revoked, in whatever order, that were revoked before it
 pub record IsAt (sc : Scenario) (place : ℕ) (facts : List Fact) (now : ℕ) (revoked : List CredId)
@@ -27,15 +27,6 @@ IsHeldThere =
     → IsAt sc place facts now revoked
     → (txn : Transaction)
     → holdings_in sc.creds txn.subject now revoked txn.creds ≡ holdings sc place facts txn
-
--- the subject of a transaction, with the credentials of its scenario
-abbrev pub holder_of : Scenario → Transaction → ℕ → List CredId → Holder
-holder_of sc txn now revoked = record {
-  store = sc.creds;
-  subject = txn.subject;
-  now = now;
-  revoked = revoked;
-}
 
 -- the certificate of a rule, where a verdict names one, passes the check
 abbrev pub is_checked_of : Holder → Option ℕ → List CredId → Action → List ℕ → Policy → Bool

@@ -14,7 +14,7 @@ use Rattle.tp_model.specs.Words.no
 use Rattle.tp_model.specs.Words.vote
 use Rattle.tp_model.specs.Words.{AckReply, Actor, Answer, Body, Cause, Deed, DoneReply, InquireRequest, Instance, Letter, Mail, Met, Newer, NewestReply, No, Outcome, Query, Reading, Scenario, ServerId, Staple, TellReply, TxnId, Verdict, VerdictsReply, Vote, VoteReply}
 use Rattle.tp_types.proofs.EachLemmas.{by_cond}
-use Rattle.tp_coord.specs.Row.{aborts, ack_from, ask_letter, asks, asks_in, asks_votes, awaited_in, awaiting, awaits_query, awaits_verdicts, awaits_vote, begins, checks, closes, commit_round, commits, coordinator_row, decide_letters, denied_by, died_for, goes_by, goes_on, home_of, if_made, instances_with, is_among, is_from, is_made, makes, move_after, move_at, move_made, next_at, next_number, number_at, older_than, on_ack, on_all_true, on_answer, on_body, on_done_from, on_done_of_query, on_inquire, on_judged, on_no, on_older, on_plain_vote, on_proofs_read, on_reading, on_reply, on_round_read, on_staple, on_verdicts, on_verdicts_of, on_vote, on_vote_of, on_votes_left, own_query, phase_of, place_of, point_of, probe_letter, probes, probing_at, query_again, query_request, reading_of, refused_by, repeats, request, round_letters, sends_next, sends_query, server_of, staple_of, stays, submit_row, tells, validation_round, verdicts_at, vote_at, vote_letters, voting, with_deed, with_proof, without}
+use Rattle.tp_coord.specs.Row.{aborts, ack_from, ask_letter, asks, asks_in, asks_votes, awaiting, awaits_query, awaits_verdicts, awaits_vote, begins, checks, closes, commit_round, commits, coordinator_row, decide_letters, denied_by, died_for, goes_by, goes_on, home_of, if_made, instances_with, is_among, is_from, is_made, makes, move_after, move_at, move_made, next_at, next_number, number_at, older_than, on_ack, on_all_true, on_answer, on_body, on_done_from, on_done_of_query, on_inquire, on_judged, on_no, on_older, on_plain_vote, on_proofs_read, on_reading, on_reply, on_round_read, on_staple, on_verdicts, on_verdicts_of, on_vote, on_vote_of, on_votes_left, own_query, phase_of, place_of, point_of, probe_letter, probes, probing_at, query_again, query_request, reading_of, refused_by, repeats, request, round_letters, sends_next, sends_query, server_of, staple_of, stays, submit_row, tells, validation_round, verdicts_at, vote_at, vote_letters, voting, with_deed, with_proof, without}
 use Rattle.tp_coord.specs.State.{Coordinator}
 use Rattle.tp_coord.specs.declared.coordinator.Phase.TheVariants as phase
 use Rattle.tp_coord.specs.declared.coordinator.Phase.{Phase}

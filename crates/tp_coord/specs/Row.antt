@@ -21,6 +21,7 @@ use Rattle.tp_model.specs.Words.{Actor, AdminId, Answer, Body, Cause, CommitReco
 use Rattle.tp_model.specs.Levels.{is_global, reads_master}
 use Rattle.tp_model.specs.Limits.{admins_limit, count_limit, next_count, view_rounds}
 use Rattle.tp_model.specs.Deeds.{deed_of}
+use Rattle.tp_model.specs.Demand.{most_rounds}
 use Rattle.tp_coord.specs.Sums.{asked_value}
 use Rattle.tp_coord.specs.State.{Coordinator}
 use Rattle.tp_coord.specs.declared.coordinator.Phase.TheVariants as phase
@@ -33,12 +34,11 @@ use Rattle.tp_scheme.specs.declared.moves.Move.TheVariants as move
 use Rattle.tp_scheme.specs.declared.moves.Point.TheVariants as point
 use Rattle.tp_scheme.specs.declared.moves.Move.{Move}
 use Rattle.tp_scheme.specs.declared.moves.Point.{Point}
-use Rattle.tp_round.specs.Judge.{after_judgement, after_reply, first_round, is_awaited, is_missing, judge}
+use Rattle.tp_round.specs.Judge.{after_judgement, after_reply, awaited_in, first_round, is_awaited, is_missing, judge}
 use Rattle.tp_round.specs.Replies.{by_query, proofs_in}
 use Rattle.tp_round.specs.declared.round.Judged.TheVariants as judged
 use Rattle.tp_round.specs.declared.round.Judged.{Judged}
 use Rattle.tp_round.specs.declared.round.Round.{Round}
-use Rattle.tp_round.specs.declared.round.Target.{Target}
 use Rattle.tp_round.specs.declared.round.Wanted.{Wanted}
 
 -- the turn of the next request; at the greatest number it stays
@@ -236,12 +236,8 @@ level_read sc txn = if reads_master sc txn then level.Global else level.View
 abbrev pub level_at : Scenario → Coordinator → Level
 level_at sc c = option_map_or (level_read sc) (slice_get sc.txns c.txn.0) level.View
 
--- in how many rounds a newer version may be met at the master. Where none is read, two rounds are enough
-abbrev pub limit_of : Scenario → Transaction → ℕ
-limit_of sc txn = if reads_master sc txn then txn.rounds else view_rounds
-
 abbrev pub limit_at : Scenario → Coordinator → ℕ
-limit_at sc c = option_map_or (limit_of sc) (slice_get sc.txns c.txn.0) view_rounds
+limit_at sc c = option_map_or (most_rounds sc) (slice_get sc.txns c.txn.0) view_rounds
 
 -- a first round of these servers
 abbrev pub round_of : Scenario → Coordinator → List ServerId → Round
@@ -509,13 +505,6 @@ round_letter c span.Commit turn round staple server = prepare_letter c turn roun
 
 abbrev pub staple_of : TellReply → ℕ → Staple
 staple_of tell sent = record { place = sent; clock = tell.clock; revoked = tell.revoked }
-
-abbrev pub server_of_target : Target → ServerId
-server_of_target target = target.server
-
--- the servers of a round whose replies are awaited
-abbrev pub awaited_in : Round → List ServerId
-awaited_in round = map server_of_target (filter is_missing round.targets)
 
 -- each of them is asked, in a turn, with the staple, at the versions that are wanted of it
 abbrev pub round_letters : Coordinator → Span → ℕ → Round → Staple → List Letter

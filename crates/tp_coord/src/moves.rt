@@ -1,6 +1,7 @@
 //! What a coordinator's transaction does at a point, by the table of moves.
 ghost use Rattle.std.specs.Prelude.{◌≡◌, IfOk};
 ghost use Rattle.tp_types.specs.Effect.{Gives};
+ghost use Rattle.tp_model.specs.Demand as demand;
 ghost use Rattle.tp_coord.specs.Row as row;
 
 use crate::coordinator::{Coordinator, Phase};
@@ -90,7 +91,7 @@ impl Coordinator {
     {
         match scenario.txns.get(self.txn.0 as usize) {
             None => VIEW_ROUNDS,
-            Some(txn) => limit_of(scenario, txn),
+            Some(txn) => most_rounds(scenario, txn),
         }
     }
 }
@@ -107,8 +108,8 @@ fn level_read(scenario: &Scenario, txn: &Transaction) -> Level
 }
 
 /// In how many rounds a newer version may be met at the master.
-fn limit_of(scenario: &Scenario, txn: &Transaction) -> u32
-    ensures { result ≡ row.limit_of scenario.now txn.now }
+fn most_rounds(scenario: &Scenario, txn: &Transaction) -> u32
+    ensures { result ≡ demand.most_rounds scenario.now txn.now }
 {
     if reads_master(scenario, txn) {
         txn.rounds

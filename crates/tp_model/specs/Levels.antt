@@ -1,5 +1,5 @@
 -- What level of consistency a transaction asks of an administrator's versions, and whether it reads the master.
-use Rattle.std.specs.Prelude.{slice_get, Bool, true, false}
+use Rattle.std.specs.Prelude.{slice_get, List, Bool, true, false}
 use Rattle.std.specs.List.{list_any}
 use Rattle.std.specs.Option.{option_map_or}
 use Rattle.tp_model.specs.Words.{AdminId, Item, Level, Query, Scenario, Transaction}
@@ -9,6 +9,10 @@ use Rattle.tp_model.specs.Queries.{item_of}
 abbrev pub is_global : Level → Bool
 is_global Global = true
 is_global _ = false
+
+-- an administrator that the list of levels lacks is under view consistency
+abbrev pub is_global_at : List Level → AdminId → Bool
+is_global_at levels admin = option_map_or is_global (slice_get levels admin.0) false
 
 -- the level that a transaction asks for an administrator
 abbrev pub level_of : Transaction → AdminId → Level

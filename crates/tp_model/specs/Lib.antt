@@ -1,5 +1,6 @@
 pub mod Agreement
 pub mod Authorisation
+pub mod ByAge
 pub mod Causes
 pub mod Commits
 pub mod Credentials
@@ -11,10 +12,13 @@ pub mod Levels
 pub mod Limits
 pub mod Outside
 pub mod Policies
+pub mod Printable
 pub mod Queries
 pub mod SerialRun
+pub mod SpelledNames
 pub mod Trust
 pub mod TrustedHistory
 pub mod Valid
 pub mod Versions
+pub mod WantedVersions
 pub mod Words

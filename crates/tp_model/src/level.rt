@@ -12,6 +12,16 @@ pub fn is_global(level: Level) -> bool
     matches!(level, Level::Global)
 }
 
+/// Whether a list of levels has the level global for an administrator. One that the list lacks is under view consistency.
+pub fn is_global_at(asked: &[Level], admin: AdminId) -> bool
+    ensures { result ≡ levels.is_global_at asked.now admin }
+{
+    match asked.get(admin.0 as usize) {
+        None => false,
+        Some(level) => is_global(*level),
+    }
+}
+
 /// The level that a transaction asks for an administrator.
 pub fn level_of(txn: &Transaction, _admin: AdminId) -> Level
     ensures { result ≡ levels.level_of txn.now _admin }

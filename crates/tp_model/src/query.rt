@@ -38,16 +38,6 @@ pub fn query_at(txn: &Transaction, number: u32) -> Option<&Query>
     txn.queries.get(number as usize - 1)
 }
 
-/// The member of a slice that has exactly one.
-pub fn only<T>(items: &[T]) -> Option<&T>
-    ensures { option_copied result ≡ queries.only items.now }
-{
-    match items.split_first() {
-        None => None,
-        Some((first, others)) => { if others.is_empty() { Some(first) } else { None } }
-    }
-}
-
 /// The query is on an item of the server.
 pub fn is_at_server(scenario: &Scenario, server: u32, query: &Query) -> bool
     ensures { result ≡ queries.is_at_server scenario.now server query.now }

@@ -2,7 +2,7 @@
 use Rattle.std.proofs.Common.{◌≡◌, ℕ, zero, suc, ◌-◌, List, [], ◌∷◌, ◌++◌, length, replicate, Option, Some, None, refl, ap, ◌∙◌}
 use Rattle.tp_model.specs.Words.{Prepared}
 use Rattle.tp_places.specs.Padded.{padded}
-use Rattle.tp_recover.specs.Held.{by_txn}
+use Rattle.tp_model.specs.ByAge.{by_txn}
 
 by_txn-none : (n : ℕ) → by_txn (replicate n None) ≡ []
 by_txn-none zero = refl

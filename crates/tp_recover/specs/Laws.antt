@@ -6,7 +6,7 @@ use Rattle.tp_model.specs.Words.log
 use Rattle.tp_store.specs.Rule.{known_at_first}
 use Rattle.tp_recover.specs.declared.kept.Kept.{Kept}
 use Rattle.tp_recover.specs.declared.answer.Held.{Held}
-use Rattle.tp_recover.specs.Held.{are_rising}
+use Rattle.tp_model.specs.ByAge.{are_rising}
 use Rattle.tp_recover.specs.Kept.{kept, kept_step, of_txn, version_at}
 use Rattle.tp_recover.specs.Log.{decided_in, epoch_in, known_in, prepared_in, settled_in, settlements_in, values_in, without_boots}
 

@@ -2,7 +2,8 @@
 use Rattle.std.specs.Prelude.{◌≡◌, List, true, false}
 use Rattle.tp_model.specs.Words.{Ending, Fact, Scenario}
 use Rattle.tp_model.specs.Valid.{is_valid}
-use Rattle.tp_report.specs.Printable.{has_cred_none, is_printable, is_spelled}
+use Rattle.tp_model.specs.SpelledNames.{is_spelled}
+use Rattle.tp_model.specs.Printable.{has_cred_none, is_printable}
 use Rattle.tp_report.specs.ReportText.{report_text}
 
 -- two histories with one text

@@ -1,4 +1,4 @@
 pub mod Laws
-pub mod Printable
 pub mod ReportText
+pub mod StepText
 pub mod Tokens

@@ -31,6 +31,14 @@ pub fn put_number<I: Integer>(out: &mut Vec<u8>, number: I) -> Result<(), NoMemo
     put(out, Buffer::new().format(number).as_bytes())
 }
 
+/// Puts a piece, and a number in decimal behind it.
+pub fn put_after<I: Integer>(out: &mut Vec<u8>, piece: &[u8], number: I) -> Result<(), NoMemory>
+    ensures { OnOk result (out.new.items ≡ out.old.items ++ (piece.now ++ I.text number)) }
+{
+    put(out, piece)?;
+    put_number(out, number)
+}
+
 pub fn put_admin(out: &mut Vec<u8>, scenario: &Scenario, id: AdminId) -> Result<(), NoMemory>
     ensures { OnOk result (out.new.items ≡ out.old.items ++ admin_name scenario.now id) }
 {

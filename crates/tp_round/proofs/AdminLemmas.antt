@@ -9,7 +9,7 @@ use Rattle.tp_model.specs.Words.{AdminId, Verdict, Version}
 use Rattle.tp_model.specs.Ids.{same_admin}
 use Rattle.tp_round.specs.Judge.{is_aimed}
 use Rattle.tp_round.specs.Replies.{admins_of, is_of, with_admin, with_its_admin}
-use Rattle.tp_round.specs.Laws.{wanted_of}
+use Rattle.tp_model.specs.WantedVersions.{wanted_of}
 
 -- ---- truth values
 

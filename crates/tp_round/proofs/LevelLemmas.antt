@@ -3,9 +3,8 @@ use Rattle.std.proofs.Common.{◌≡◌, ◌<◌, ℕ, suc, zero, false, replica
 use Rattle.std.specs.Option.{option_map_or}
 use Rattle.tp_model.specs.Words.{AdminId, Level}
 use Rattle.tp_model.specs.Words.level
-use Rattle.tp_model.specs.Levels.{is_global}
+use Rattle.tp_model.specs.Levels.{is_global, is_global_at}
 use Rattle.tp_model.specs.Limits.{admins_limit}
-use Rattle.tp_round.specs.Judge.{is_global_at}
 
 view_at : (count place : ℕ) → option_map_or is_global (slice_get (replicate count level.View) place) false ≡ false
 view_at zero place = refl

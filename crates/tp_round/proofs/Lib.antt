@@ -2,6 +2,7 @@ pub mod AdminLemmas
 pub mod AgainLemmas
 pub mod AgreedLemmas
 pub mod AnswerLemmas
+pub mod GlobalLemmas
 pub mod JudgeLemmas
 pub mod KeptLemmas
 pub mod LevelLemmas

@@ -9,7 +9,8 @@ use Rattle.tp_model.specs.Limits.{count_limit}
 use Rattle.tp_round.specs.declared.round.Judged.TheVariants.{Waiting, Spent, Update}
 use Rattle.tp_round.specs.declared.round.Round.{Round}
 use Rattle.tp_round.specs.declared.round.Wanted.{Wanted}
-use Rattle.tp_round.specs.Judge.{after, aim_in, final_answer, is_below, is_global_at, is_outdated, is_spent, is_waiting, met_at, met_in, mets_in, newest_in, target, wants_of}
+use Rattle.tp_round.specs.Judge.{after, aim_in, final_answer, is_below, is_outdated, is_spent, is_waiting, met_at, met_in, mets_in, newest_in, target, wants_of}
+use Rattle.tp_model.specs.Levels.{is_global_at}
 use Rattle.tp_round.specs.Replies.{greatest, is_of, least, least_false, proofs_in, with_admin, with_its_admin, with_lesser}
 use Rattle.tp_round.specs.Laws.{HasAllMets, IsLeastMet, MeetsTheLeast, MeetsWhatIsNewer, SpentHasAllMets, UpdateKeepsMets, is_older, is_short, is_used, target_in}
 use Rattle.tp_round.proofs.AdminLemmas.{aimed_at, any_admin}

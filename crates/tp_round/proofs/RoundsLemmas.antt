@@ -13,7 +13,8 @@ use Rattle.tp_round.specs.declared.round.Judged.TheVariants.{Waiting, AllTrue, F
 use Rattle.tp_round.specs.declared.round.Round.{Round}
 use Rattle.tp_round.specs.declared.round.Target.{Target}
 use Rattle.tp_round.specs.declared.round.Wanted.{Wanted}
-use Rattle.tp_round.specs.Judge.{after, after_reply, aim_in, awaits, first_round, is_aimed, is_awaited, is_global_at, is_missing, is_outdated, is_proved_by, is_spent, is_waiting, judge, met_in, mets_in, new_target, newest_in, next_number, next_round, next_target, want_of, with_reply}
+use Rattle.tp_round.specs.Judge.{after, after_reply, aim_in, awaits, first_round, is_aimed, is_awaited, is_missing, is_outdated, is_proved_by, is_spent, is_waiting, judge, met_in, mets_in, new_target, newest_in, next_number, next_round, next_target, want_of, with_reply}
+use Rattle.tp_model.specs.Levels.{is_global_at}
 use Rattle.tp_round.specs.Replies.{greatest, is_of, proofs_in, verdicts_in, with_greater}
 use Rattle.tp_round.specs.Laws.{AreAsNamed, AreInOrder, Call, Judges, Replies, RoundsCountMets, TwoRoundsUnderView, after_call, after_calls, is_as_named, is_behind, is_not_above, is_of_global, is_read_after, is_read_for, is_short, is_under_view, reads_globals, target_in, was_named}
 use Rattle.tp_round.proofs.AdminLemmas.{aimed_at, any_admin, covered, has_its_admin, same_ids}
@@ -237,7 +238,7 @@ view_at f round reading verdict view all here at =
     ap (λ b. cond b (newest_in reading verdict.admin) (greatest verdict.admin proofs)) view ∙ greatest_is f verdict.admin proofs all some in
     ap (λ n. n == verdict.version.0) is ∙ at
 
-unread_where : (missing reads : Bool) → reads ≡ true → (missing || (reads && true)) ≡ false → ⊥
+pub unread_where : (missing reads : Bool) → reads ≡ true → (missing || (reads && true)) ≡ false → ⊥
 unread_where true reads e goes_on = cc
 unread_where false true e goes_on = cc
 unread_where false false e goes_on = cc
@@ -283,7 +284,7 @@ at_none_behind f (verdict ∷ verdicts) at =
     let parts = and_parts (is_at f verdict) (list_all (is_at f) verdicts) at in
     or_from (not (is_at f verdict)) (list_any (λ (other : Verdict). not (f other.admin == other.version.0)) verdicts) (ap not parts.0) (at_none_behind f verdicts parts.1)
 
-at_none_out : (round : Round) (reading : Option Reading) (targets : List Target) → list_all (are_at (target_in round reading)) targets ≡ true → list_any (is_behind round reading) targets ≡ false
+pub at_none_out : (round : Round) (reading : Option Reading) (targets : List Target) → list_all (are_at (target_in round reading)) targets ≡ true → list_any (is_behind round reading) targets ≡ false
 at_none_out round reading [] at = refl
 at_none_out round reading (target ∷ targets) at =
     let parts = and_parts (are_at (target_in round reading) target) (list_all (are_at (target_in round reading)) targets) at in
@@ -317,7 +318,7 @@ number_two round e = ap (λ n. min (n + 1) (2 ^ 32 - 1)) e
 none_more : (round : Round) → length (mets_in round None) ≡ length round.mets
 none_more round = length-append round.mets [] ∙ omega arith
 
-one_more : (round : Round) (met : Met) → length (mets_in round (Some met)) ≡ length round.mets + 1
+pub one_more : (round : Round) (met : Met) → length (mets_in round (Some met)) ≡ length round.mets + 1
 one_more round met = length-append round.mets (met ∷ [])
 
 unspent_where : (a b : ℕ) → (a == b) ≡ false → a ≤ b → a < b
@@ -462,12 +463,12 @@ replied_reads round server verdicts new reads =
     all_of_each (is_read_for round) (with_reply round.targets server verdicts)
     ∙ reply_passes (is_read_for round) round.targets server verdicts (sym (all_of_each (is_read_for round) round.targets) ∙ reads) (λ waits. new)
 
-call_keeps : (call : Call) (round : Round) → is_as_named call round ≡ true → reads_globals call round ≡ true → is_read_after call round ≡ true → Keeps round → Keeps (after_call call round)
+pub call_keeps : (call : Call) (round : Round) → is_as_named call round ≡ true → reads_globals call round ≡ true → is_read_after call round ≡ true → Keeps round → Keeps (after_call call round)
 call_keeps (Replies server verdicts) round as_named new above keeps =
     record { reads = replied_reads round server verdicts new keeps.reads; count = replied_count round server verdicts as_named keeps.count; most = keeps.most }
 call_keeps (Judges reading) round as_named new above keeps = judged_keeps round reading (judge round reading) refl above keeps
 
-call_counts : (call : Call) (round : Round) → is_read_after call round ≡ true → Keeps round → Counts round → Counts (after_call call round)
+pub call_counts : (call : Call) (round : Round) → is_read_after call round ≡ true → Keeps round → Counts round → Counts (after_call call round)
 call_counts (Replies server verdicts) round above keeps counts = record { top = counts.top; few = counts.few; counted = counts.counted }
 call_counts (Judges reading) round above keeps counts = judged_counts round reading (judge round reading) refl above keeps counts
 
@@ -483,11 +484,11 @@ calls_count (call ∷ calls) round in_order keeps counts =
 
 -- ---- whole runs
 
-no_proofs : (servers : List ServerId) → proofs_in (map new_target servers) ≡ []
+pub no_proofs : (servers : List ServerId) → proofs_in (map new_target servers) ≡ []
 no_proofs [] = refl
 no_proofs (server ∷ servers) = no_proofs servers
 
-keeps_first : (servers : List ServerId) (limit : ℕ) (levels : List Level) (reads : Bool) → Keeps (first_round servers limit levels reads)
+pub keeps_first : (servers : List ServerId) (limit : ℕ) (levels : List Level) (reads : Bool) → Keeps (first_round servers limit levels reads)
 keeps_first servers limit levels reads = record {
   reads = ap (list_all (is_read_for (first_round servers limit levels reads))) (no_proofs servers);
   count = inl refl;

@@ -6,7 +6,8 @@ use Rattle.tp_model.specs.Words.{AdminId, Level, Met, Reading, Verdict, Version}
 use Rattle.tp_round.specs.declared.round.Judged.TheVariants.{Waiting, Spent, Update}
 use Rattle.tp_round.specs.declared.round.Round.{Round}
 use Rattle.tp_round.specs.declared.round.Wanted.{Wanted}
-use Rattle.tp_round.specs.Judge.{aim_for, aim_in, final_answer, is_below, is_global_at, is_outdated, is_spent, is_waiting, judge, met_at, met_by, met_in, mets_in, wants_of}
+use Rattle.tp_round.specs.Judge.{aim_for, aim_in, final_answer, is_below, is_outdated, is_spent, is_waiting, judge, met_at, met_by, met_in, mets_in, wants_of}
+use Rattle.tp_model.specs.Levels.{is_global_at}
 use Rattle.tp_round.specs.Replies.{admins_of, least_false, proofs_in}
 use Rattle.tp_round.specs.Laws.{is_of_global}
 use Rattle.tp_round.proofs.AdminLemmas.{any_admin}

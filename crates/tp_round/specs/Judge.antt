@@ -5,7 +5,7 @@ use Rattle.std.specs.Option.{is_none, is_some, option_map_or}
 use Rattle.tp_model.specs.Words.{AdminId, Level, Met, Reading, ServerId, Verdict, Version}
 use Rattle.tp_model.specs.Limits.{next_count}
 use Rattle.tp_model.specs.Ids.{same_admin, same_server}
-use Rattle.tp_model.specs.Levels.{is_global}
+use Rattle.tp_model.specs.Levels.{is_global_at}
 use Rattle.tp_round.specs.declared.round.Judged.{Judged}
 use Rattle.tp_round.specs.declared.round.Judged.TheVariants.{Waiting, AllTrue, False, Spent, Update}
 use Rattle.tp_round.specs.declared.round.Round.{Round}
@@ -55,13 +55,16 @@ after_reply round server verdicts =
 abbrev pub is_missing : Target → Bool
 is_missing target = is_none target.reply
 
+abbrev pub server_of_target : Target → ServerId
+server_of_target target = target.server
+
+-- the servers of a round whose replies are awaited
+abbrev pub awaited_in : Round → List ServerId
+awaited_in round = map server_of_target (filter is_missing round.targets)
+
 -- a reply is missing, or the master is read and was not read yet
 abbrev pub is_waiting : Round → Option Reading → Bool
 is_waiting round reading = list_any is_missing round.targets || (round.reads && is_none reading)
-
--- an administrator that the list of levels lacks is under view consistency
-abbrev pub is_global_at : List Level → AdminId → Bool
-is_global_at levels admin = option_map_or is_global (slice_get levels admin.0) false
 
 abbrev pub version_number : Version → ℕ
 version_number version = version.0

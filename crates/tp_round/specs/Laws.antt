@@ -1,5 +1,5 @@
 -- What follows from the judgement of rounds.
-use Rattle.std.specs.Prelude.{◌≡◌, ℕ, ◌+◌, ◌&&◌, ◌||◌, ◌<◌, ◌≤◌, ◌==◌, List, [], ◌∷◌, ◌++◌, filter, find, length, map, Bool, true, false, not, nat_le, nat_lt, slice_get, Option, Some, None, option_map, option_to_list, if◌then◌else◌}
+use Rattle.std.specs.Prelude.{◌≡◌, ℕ, ◌+◌, ◌&&◌, ◌||◌, ◌<◌, ◌≤◌, ◌==◌, List, [], ◌∷◌, ◌++◌, filter, length, map, Bool, true, false, not, nat_le, nat_lt, slice_get, Option, Some, None, option_to_list, if◌then◌else◌}
 use Rattle.std.specs.List.{list_all, list_any, range_with_len}
 use Rattle.std.specs.Option.{is_none}
 use Rattle.tp_model.specs.Words.{AdminId, Level, Met, Reading, ServerId, Verdict, Version}
@@ -7,12 +7,14 @@ use Rattle.tp_model.specs.Demand.{query_of}
 use Rattle.tp_model.specs.Ids.{same_admin, same_server}
 use Rattle.tp_model.specs.Limits.{count_limit}
 use Rattle.tp_model.specs.Versions.{is_one_version}
+use Rattle.tp_model.specs.WantedVersions.{wanted_of}
 use Rattle.tp_round.specs.declared.round.Judged.{Judged}
 use Rattle.tp_round.specs.declared.round.Judged.TheVariants.{Waiting, AllTrue, False, Spent, Update}
 use Rattle.tp_round.specs.declared.round.Round.{Round}
 use Rattle.tp_round.specs.declared.round.Target.{Target}
 use Rattle.tp_round.specs.declared.round.Wanted.{Wanted}
-use Rattle.tp_round.specs.Judge.{after_judgement, after_reply, first_round, is_aimed, is_awaited, is_global_at, is_waiting, judge, met_in, newest_in, target}
+use Rattle.tp_round.specs.Judge.{after_judgement, after_reply, first_round, is_aimed, is_awaited, is_waiting, judge, met_in, newest_in, target}
+use Rattle.tp_model.specs.Levels.{is_global_at}
 use Rattle.tp_round.specs.Replies.{by_query, is_at_query, is_of, proofs_in, verdicts_in}
 
 -- ---- what an update names
@@ -27,16 +29,6 @@ is_behind round reading server =
     list_any
     (λ (verdict : Verdict). not (target_in round reading verdict.admin == verdict.version.0))
     (verdicts_in server)
-
-abbrev pub is_for : AdminId → AdminId × Version → Bool
-is_for admin one = same_admin one.0 admin
-
-abbrev pub want_number : AdminId × Version → ℕ
-want_number one = one.1.0
-
--- the version that is wanted of an administrator, if any is
-abbrev pub wanted_of : List (AdminId × Version) → AdminId → Option ℕ
-wanted_of want admin = option_map want_number (find (is_for admin) want)
 
 -- the server is named, and of it the target of each administrator is wanted of which it has a proof, and of no other
 pub record IsNamed (round : Round) (reading : Option Reading) (server : Target) (named : Wanted)
@@ -297,6 +289,43 @@ RoundsCountMets =
     → 1 ≤ limit → limit ≤ 16
     → (calls : List Call) → AreInOrder calls (first_round servers limit levels reads)
     → CountsMets (after_calls calls (first_round servers limit levels reads))
+
+-- ---- all under global consistency
+
+-- every verdict of the reply is of an administrator under global consistency
+abbrev pub is_under_global : List Level → Call → Bool
+is_under_global levels (Replies server verdicts) = list_all (is_of_global levels) verdicts
+is_under_global levels (Judges reading) = true
+
+-- where every verdict is of such an administrator, each round before the present one met something: the number of the present
+-- round is one more than the rounds that were met
+abbrev pub MeetsInEachRound : Type 0
+MeetsInEachRound =
+    (servers : List ServerId) (limit : ℕ) (levels : List Level) (reads : Bool)
+    → 1 ≤ limit → limit ≤ 16
+    → (calls : List Call) → list_all (is_under_global levels) calls ≡ true
+    → AreInOrder calls (first_round servers limit levels reads)
+    → (after_calls calls (first_round servers limit levels reads)).number
+    ≡ length (after_calls calls (first_round servers limit levels reads)).mets + 1
+
+-- the rounds are spent exactly where nothing is missing, a server is out of date, and this is the last round that may be
+pub record IsSpentAtLimit (round : Round) (reading : Option Reading) : Type 0 where
+  pub spent : (mets : List Met) → judge round reading ≡ Spent mets
+      → (list_any (is_behind round reading) round.targets ≡ true) × (round.number ≡ round.limit)
+  pub last : is_waiting round reading ≡ false
+      → list_any (is_behind round reading) round.targets ≡ true → round.number ≡ round.limit
+      → (mets : List Met) × (judge round reading ≡ Spent mets)
+
+-- so they are, where every verdict is of such an administrator, and the master is read after the proofs
+abbrev pub SpentAtTheLimit : Type 0
+SpentAtTheLimit =
+    (servers : List ServerId) (limit : ℕ) (levels : List Level) (reads : Bool)
+    → 1 ≤ limit → limit ≤ 16
+    → (calls : List Call) → list_all (is_under_global levels) calls ≡ true
+    → AreInOrder calls (first_round servers limit levels reads)
+    → (reading : Option Reading)
+    → is_read_after (Judges reading) (after_calls calls (first_round servers limit levels reads)) ≡ true
+    → IsSpentAtLimit (after_calls calls (first_round servers limit levels reads)) reading
 
 -- ---- judging again
 

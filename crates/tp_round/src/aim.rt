@@ -9,18 +9,10 @@ ghost use Rattle.tp_round.specs.Replies as replies;
 use crate::replies::{admins_of, greatest, least, verdicts_in};
 use crate::round::{Target, Wanted};
 use std::alloc::Global;
+use tp_model::is_global_at;
 use tp_types::{AdminId, Level, List, Met, NoMemory, Reading, Verdict, Version};
 
 // ---- targets
-
-fn is_global_at(levels: &[Level], admin: AdminId) -> bool
-    ensures { result ≡ rule.is_global_at levels.now admin }
-{
-    match levels.get(admin.0 as usize) {
-        None => false,
-        Some(level) => matches!(level, Level::Global),
-    }
-}
 
 fn newest_in(reading: Option<&Reading>, admin: AdminId) -> u32
     ensures { result ≡ rule.newest_in (option_copied reading.entry) admin }

@@ -53,6 +53,14 @@ pub fn rounds_are_counted()
     ensures { laws.RoundsCountMets }
 {}
 
+/// Where besides every verdict that is replied is of an administrator under global consistency, each round before the present one
+/// met a newer version: its number is one more than the rounds that were met, and the rounds are spent exactly where a
+/// server is out of date and the round is the last that may be.
+pub fn global_rounds_are_met()
+    ensures met { laws.MeetsInEachRound }
+    ensures spent { laws.SpentAtTheLimit }
+{}
+
 /// A round that is judged again with the same reading answers the same; after an update it waits.
 pub fn judging_again_is_safe()
     ensures same { laws.JudgesTheSameAgain }

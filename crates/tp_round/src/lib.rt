@@ -35,6 +35,9 @@
 //!   (`rounds_are_counted`)
 //! - Where no verdict of a reply is under global consistency, and replies after an update are as just said, there
 //!   are at most two rounds, and only the first is updated (`view_takes_two_rounds`: `two_rounds`)
+//! - Where besides every verdict that is replied is under global consistency, the number of the round is one more than
+//!   the rounds that were met, and the rounds are spent exactly where nothing is missing, a server is out of date, and
+//!   the round is the last that may be (`global_rounds_are_met`: `met`, `spent`)
 //! - A round that is judged again with the same reading answers the same, where it was not updated; after an
 //!   update it waits (`judging_again_is_safe`: `same`, `waits`)
 //! - Of each query from 1 to 16 the proofs by query are those that were replied, in their order; where the
@@ -53,8 +56,8 @@ mod replies;
 mod round;
 
 pub use laws::{
-    agreed_rounds_agree, judging_again_is_safe, proofs_go_by_query, rounds_are_answered,
-    rounds_are_counted, rounds_meet_the_least, spent_rounds_have_all_mets,
+    agreed_rounds_agree, global_rounds_are_met, judging_again_is_safe, proofs_go_by_query,
+    rounds_are_answered, rounds_are_counted, rounds_meet_the_least, spent_rounds_have_all_mets,
     update_names_the_outdated, view_takes_two_rounds,
 };
 pub use round::{Judged, Round, Target, Wanted};

@@ -6,7 +6,7 @@ use Rattle.tp_model.specs.Words.{Scenario, Step, TxnId}
 use Rattle.tp_model.specs.Valid.{is_valid}
 use Rattle.tp_model.specs.SerialRun.{store_of}
 use Rattle.tp_model.specs.TrustedHistory.{TrustedSoFar, have_ended}
-use Rattle.tp_report.specs.Printable.{is_printable}
+use Rattle.tp_model.specs.Printable.{is_printable}
 use Rattle.tp_machine.specs.declared.actors.Actors.{Actors}
 use Rattle.tp_machine.specs.Machine.{State, after, ending_of, is_armed_at, is_down, is_submitted}
 use Rattle.tp_machine.specs.WorldView.{WorldView}

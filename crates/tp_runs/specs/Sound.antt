@@ -17,7 +17,7 @@ use Rattle.tp_model.specs.Words.what
 use Rattle.tp_model.specs.Words.{Actor, Admin, AdminId, Answer, Body, Cause, CommitRecord, CredId, Decided, Decision, Deed, Denied, Died, DoneReply, Fact, Instance, Item, ItemId, Letter, Mail, Met, Newer, NewestReply, No, OutOfRange, PrepareRequest, Prepared, PushNotice, Query, QueryRequest, Record, Scenario, ServerId, Settled, Staple, TellReply, Transaction, TxnId, ValidateRequest, Verdict, VerdictsReply, Version, Vote, VoteReply, What}
 use Rattle.tp_types.specs.Each.{Each, EachAt, EachPlaced}
 use Rattle.tp_machine.specs.Machine.{State}
-use Rattle.tp_machine.specs.Named.{IsCrasher, IsCred, IsServer, IsTxn}
+use Rattle.tp_machine.specs.Named.{IsActor, IsCrasher, IsCred, IsServer, IsTxn}
 use Rattle.tp_machine.specs.Parts.{Part}
 use Rattle.tp_coord.specs.State.{Coordinator}
 use Rattle.tp_scheme.specs.Moves.{proves_each}
@@ -26,7 +26,7 @@ use Rattle.tp_coord.specs.declared.coordinator.Phase.TheVariants as phase
 use Rattle.tp_coord.specs.declared.coordinator.Phase.{Phase}
 use Rattle.tp_coord.specs.declared.coordinator.Span.TheVariants as span
 use Rattle.tp_coord.specs.declared.coordinator.Span.{Span}
-use Rattle.tp_round.specs.Judge.{is_global_at}
+use Rattle.tp_model.specs.Levels.{is_global_at}
 use Rattle.tp_round.specs.declared.round.Round.{Round}
 use Rattle.tp_round.specs.declared.round.Target.{Target}
 use Rattle.tp_round.specs.declared.round.Wanted.{Wanted}
@@ -42,12 +42,6 @@ use Rattle.tp_store.specs.Rule.{writes_of}
 use Rattle.tp_store.specs.declared.writes.TentativeWrite.{TentativeWrite}
 
 -- ---- ids
-
--- the actor exists
-abbrev pub IsActor : Scenario → Actor → Type 0
-IsActor sc (actor.Server at) = IsServer sc at
-IsActor sc (actor.Coordinator txn) = IsTxn sc txn
-IsActor sc _ = Unit {0}
 
 -- the actor is a server
 abbrev pub IsServerActor : Actor → Type 0

@@ -5,6 +5,7 @@ use Rattle.std.proofs.lemmas.Bool.Decides.{nat_tests}
 use Rattle.std.proofs.lemmas.List.{length-append}
 use Rattle.tp_types.proofs.ListLemmas.{none_passes}
 use Rattle.serde_json.specs.Data.{Data, Items, no_items, item}
+use Rattle.tp_types.specs.Spelling.{is_name}
 use Rattle.tp_model.specs.Limits.{has_count, is_between, is_from_to}
 use Rattle.tp_model.specs.Valid.{are_distinct}
 use Rattle.tp_scenario.specs.declared.fault.Fault.{Fault}
@@ -13,7 +14,7 @@ use Rattle.tp_scenario.specs.Chain.{◌>>=◌}
 use Rattle.tp_scenario.specs.Faults.{range}
 use Rattle.tp_model.specs.Ids.{same_name}
 use Rattle.tp_scenario.specs.Names.{Names, place_of}
-use Rattle.tp_scenario.specs.Values.{apart, array_at, count_at, count_or, count_or_range, each, item_count, items_at, items_or, items_or_range, name_at, new_name_at, place_at, place_or_unknown, through, whole_at, whole_in, within}
+use Rattle.tp_scenario.specs.Values.{apart, array_at, count_at, count_or, count_or_range, each, item_count, items_at, items_or, items_or_range, name_at, name_or_range, new_name_at, place_at, place_or_unknown, text_at, through, whole_at, whole_in, within}
 use Rattle.tp_scenario.proofs.GrowingLists.{any_made, distinct_more, place_within}
 
 -- ---- one step and the next
@@ -77,6 +78,20 @@ apart_ok path names given name e =
 pub new_name_ok : (path : Path) (names : Names) (value : Option Data) (name : List ℕ) → new_name_at path names value ≡ Ok name → place_of name names ≡ None
 unfolding new_name_at
 new_name_ok path names value name e = let text = then_ok (name_at path value) _ _ e in (apart_ok path names text.0 name text.2).1
+
+-- a name that is read is spelled as one
+name_spelled : (path : Path) (value : Option Data) (name : List ℕ) → name_at path value ≡ Ok name → is_name name ≡ true
+unfolding name_at
+name_spelled path value name e =
+    let text = then_ok (text_at path value) (name_or_range path) name e in
+    let got = test_ok (is_name text.0) text.0 name (range path) text.2 in
+    subst (λ (n : List ℕ). is_name n ≡ true) got.1 got.0
+
+pub new_name_spelled : (path : Path) (names : Names) (value : Option Data) (name : List ℕ) → new_name_at path names value ≡ Ok name → is_name name ≡ true
+unfolding new_name_at
+new_name_spelled path names value name e =
+    let text = then_ok (name_at path value) _ _ e in
+    subst (λ (n : List ℕ). is_name n ≡ true) (apart_ok path names text.0 name text.2).0 (name_spelled path value text.0 text.1)
 
 pub used_ok : (path : Path) (names : Names) (name : List ℕ) (place : ℕ) → place_or_unknown path names name ≡ Ok place → place < length names
 unfolding place_or_unknown

@@ -8,6 +8,7 @@ use Rattle.serde_json.specs.Data.{Data}
 use Rattle.tp_model.specs.Words.{Admin, Credential, Policy, Value, Version}
 use Rattle.tp_types.specs.declared.policy.Value.TheVariants.{Number, Word}
 use Rattle.tp_policy_text.specs.declared.parsing.ParseError.{ParseError}
+use Rattle.tp_types.specs.Spelling.{is_name}
 use Rattle.tp_model.specs.Limits.{clock_limit, has_count, is_from_to, number_limit}
 use Rattle.tp_model.specs.Valid.{are_distinct, are_valid_admins, are_valid_creds, is_valid_admin, is_valid_cred, is_valid_policy, is_valid_value, same_admin_name, same_cred_name}
 use Rattle.tp_scenario.specs.declared.path.Key.TheVariants.{Admins, Attr, Credentials, From, Issuer, Name, Opening, Policies, Subject, Until, Value as ValueKey}
@@ -20,7 +21,7 @@ use Rattle.tp_policy_text.specs.Parses.{Answers}
 use Rattle.tp_scenario.specs.Policies.{policy_answer, policy_answer_is}
 use Rattle.tp_scenario.specs.Values.{field, name_at, object_at, text_at}
 use Rattle.tp_scenario.proofs.FewRules.{few_rules}
-use Rattle.tp_scenario.proofs.Inverses.{count_or_ok, each_count, each_keeps, items_ok, items_or_ok, named_apart, new_name_ok, ok_same, then_ok, whole_ok}
+use Rattle.tp_scenario.proofs.Inverses.{count_or_ok, each_count, each_keeps, items_ok, items_or_ok, named_apart, new_name_ok, new_name_spelled, ok_same, then_ok, whole_ok}
 
 -- ---- administrators
 
@@ -52,8 +53,9 @@ opening_kept at count value opening one e =
 pub record IsNewAdmin (names : Names) (admin : Admin) : Type 0 where
   pub valid : is_valid_admin admin ≡ true
   pub new : place_of admin.name names ≡ None
+  pub spelled : is_name admin.name ≡ true
 
-admin_kept : (names : Names) (at : ℕ) (d : Data) (admin : Admin) → admin_at names at d ≡ Ok admin → IsNewAdmin names admin
+pub admin_kept : (names : Names) (at : ℕ) (d : Data) (admin : Admin) → admin_at names at d ≡ Ok admin → IsNewAdmin names admin
 unfolding admin_at
 admin_kept names at d admin e =
     let fields = then_ok (object_at (Member Admins at) (Name ∷ Policies ∷ []) (Opening ∷ []) d) _ _ e in
@@ -66,6 +68,7 @@ admin_kept names at d admin e =
     (record {
       valid = and_from _ _ (and_from _ _ policies.0 policies.1) (opening_kept at (length library.0) _ opening.0 one opening.1);
       new = new_name_ok _ names _ name.0 name.1;
+      spelled = new_name_spelled _ names _ name.0 name.1;
     })
 
 pub admins_kept : (value : Option Data) (admins : List Admin) → admins_at value ≡ Ok admins → are_valid_admins admins ≡ true
@@ -105,8 +108,9 @@ from_most high n h = grind (arith, nat_tests)
 pub record IsNewCred (names : Names) (cred : Credential) : Type 0 where
   pub valid : is_valid_cred cred ≡ true
   pub new : place_of cred.name names ≡ None
+  pub spelled : is_name cred.name ≡ true
 
-cred_kept : (names : Names) (at : ℕ) (d : Data) (cred : Credential) → cred_at names at d ≡ Ok cred → IsNewCred names cred
+pub cred_kept : (names : Names) (at : ℕ) (d : Data) (cred : Credential) → cred_at names at d ≡ Ok cred → IsNewCred names cred
 unfolding cred_at
 cred_kept names at d cred e =
     let fields = then_ok (object_at (Member Credentials at) (Name ∷ Issuer ∷ Subject ∷ Attr ∷ ValueKey ∷ []) (From ∷ Until ∷ []) d) _ _ e in
@@ -123,6 +127,7 @@ cred_kept names at d cred e =
           (from_most clock_limit from.0 (count_or_ok _ 0 clock_limit 0 _ from.0 refl from.1)))
           (from_most clock_limit until.0 (count_or_ok _ 0 clock_limit clock_limit _ until.0 refl until.1));
       new = new_name_ok _ names _ name.0 name.1;
+      spelled = new_name_spelled _ names _ name.0 name.1;
     })
 
 pub creds_kept : (value : Option Data) (creds : List Credential) → creds_at value ≡ Ok creds → are_valid_creds creds ≡ true

@@ -7,9 +7,11 @@ use Rattle.std.proofs.lemmas.List.{length-map}
 use Rattle.serde_json.specs.Data.{Data}
 use Rattle.tp_model.specs.Words.{Admin, Scenario}
 use Rattle.tp_model.specs.Limits.{clock_limit, is_from_to}
+use Rattle.tp_model.specs.SpelledNames.{is_spelled}
 use Rattle.tp_model.specs.Valid.{IsValid, are_valid_admins, are_valid_items, are_valid_servers, has_valid_data, has_valid_policies, is_valid, is_valid_admin}
 use Rattle.tp_scenario.specs.declared.path.Key.TheVariants.{Admins, Clients, Clock, Credentials, Officers, Publishers, Servers, Steps, Transactions}
 use Rattle.tp_scenario.specs.declared.path.Path.TheVariants.{Top, Whole}
+use Rattle.tp_scenario.specs.declared.servers.Served.{Served}
 use Rattle.tp_scenario.specs.Admins.{admin_name, admins_at}
 use Rattle.tp_scenario.specs.Creds.{cred_name, creds_at}
 use Rattle.tp_scenario.specs.Scripts.{clients_at, officers_at, publishers_at}
@@ -19,6 +21,7 @@ use Rattle.tp_scenario.specs.Txns.{txn_name, txns_at}
 use Rattle.tp_scenario.specs.Values.{count_or, field, object_at}
 use Rattle.tp_scenario.specs.Walk.{all_names, names_before, walk_of}
 use Rattle.tp_scenario.proofs.Inverses.{count_or_ok, ok_same, then_ok}
+use Rattle.tp_scenario.proofs.KeptNames.{admins_spelled, creds_spelled, served_spelled, txns_spelled}
 use Rattle.tp_scenario.proofs.KeptPolicies.{admins_kept, creds_kept}
 use Rattle.tp_scenario.proofs.KeptScripts.{clients_kept, officers_kept, publishers_kept}
 use Rattle.tp_scenario.proofs.KeptServers.{served_valid, servers_kept}
@@ -112,5 +115,18 @@ all_kept sc rules =
     (and_from (has_valid_policies sc) (has_valid_data sc) (and_from _ _ (and_from _ _ rules.admins rules.clock) rules.creds) (and_from _ _ (and_from _ _ rules.servers rules.items) rules.txns))
     (and_from _ _ (and_from _ _ rules.steps rules.clients) (and_from _ _ rules.publishers rules.officers))
 
+-- the names of each kind
+names_kept : (sc : Scenario) → IsWalked sc → is_spelled sc ≡ true
+names_kept sc walk =
+    let served : Served = record { servers = sc.servers; items = sc.items } in
+    let names = of_names sc in
+    let named = served_spelled sc.admins (field Servers walk.fields) served walk.served in
+    and_from _ _ (and_from _ _ (and_from _ _ (and_from _ _ (admins_spelled (field Admins walk.fields) sc.admins walk.admins)
+    (creds_spelled (field Credentials walk.fields) sc.creds walk.creds)) named.servers) named.items)
+    (txns_spelled sc (names_before sc.admins sc.creds served) (field Transactions walk.fields) refl names.creds (length-map sc.items item_name) walk.txns)
+
 pub walked_valid : (value : Data) (scenario : Scenario) → walk_of value ≡ Ok scenario → is_valid scenario ≡ true
 walked_valid value scenario e = all_kept scenario (rules_kept scenario (parts_of value scenario e))
+
+pub walked_spelled : (value : Data) (scenario : Scenario) → walk_of value ≡ Ok scenario → is_spelled scenario ≡ true
+walked_spelled value scenario e = names_kept scenario (parts_of value scenario e)

@@ -11,6 +11,7 @@ use Rattle.std.proofs.lemmas.List.{length-append, length-map, append_assoc, appe
 use Rattle.tp_types.proofs.ListLemmas.{all_push}
 use Rattle.serde_json.specs.Data.{Data, Items, Members, no_members, member}
 use Rattle.serde_json.specs.Find.{as_object}
+use Rattle.tp_types.specs.Spelling.{is_name}
 use Rattle.tp_model.specs.Words.{Admin, Item, ItemId, Scenario, ServerDecl, Version}
 use Rattle.tp_model.specs.Ids.{same_item}
 use Rattle.tp_model.specs.Limits.{has_count, is_between, is_from_to, int_le, value_limit}
@@ -26,7 +27,7 @@ use Rattle.tp_scenario.specs.Names.{Names, place_of}
 use Rattle.tp_scenario.specs.Servers.{ids_from, item_at, item_in, item_name, items_in, key_at, put_known, known_from, knows_at, nothing_served, opening, opening_number, server_in, server_name, servers_at, version_at, with_site}
 use Rattle.tp_scenario.specs.Values.{each, item_count, object_at}
 use Rattle.tp_scenario.proofs.GrowingLists.{all_weaker}
-use Rattle.tp_scenario.proofs.Inverses.{count_ok, each_keeps, each_length, items_ok, named_apart, new_name_ok, ok_same, then_ok, through_count, used_at_ok, whole_ok}
+use Rattle.tp_scenario.proofs.Inverses.{count_ok, each_keeps, each_length, items_ok, named_apart, new_name_ok, new_name_spelled, ok_same, then_ok, through_count, used_at_ok, whole_ok}
 
 -- ---- what a server knows
 
@@ -97,6 +98,7 @@ pub record IsNewItem (admins names : Names) (server : ℕ) (item : Item) : Type 
   pub of_admin : nat_lt item.admin.0 (length admins) ≡ true
   pub range : has_valid_range item ≡ true
   pub new : place_of item.name names ≡ None
+  pub spelled : is_name item.name ≡ true
 
 le_true : (x y : ℤ) → int_le x y ≡ true → x ≤ℤ y
 le_true x y h = grind (arith, nat_tests, ints, int_ranks x y)
@@ -112,7 +114,7 @@ bound_above low high min max lower upper =
     let least = le_true min max rest.0 in
     and_from _ _ (true_le low max (omega (arith, ints))) rest.1
 
-item_kept : (admins names : Names) (server at : ℕ) (d : Data) (item : Item) → item_at admins names server at d ≡ Ok item → IsNewItem admins names server item
+pub item_kept : (admins names : Names) (server at : ℕ) (d : Data) (item : Item) → item_at admins names server at d ≡ Ok item → IsNewItem admins names server item
 unfolding item_at
 item_kept admins names server at d item e =
     let fields = then_ok (object_at (Entry Servers server ItemsKey at) (Name ∷ AdminKey ∷ Min ∷ Max ∷ ValueKey ∷ []) [] d) _ _ e in
@@ -129,6 +131,7 @@ item_kept admins names server at d item e =
       of_admin = lt-ltb _ _ (used_at_ok _ admins _ admin.0 admin.1);
       range = and_from _ _ (and_from _ _ low (bound_above (neg_ℤ value_limit) value_limit min.0 max.0 low high)) (whole_ok _ min.0 max.0 _ value.0 value.1);
       new = new_name_ok _ names _ name.0 name.1;
+      spelled = new_name_spelled _ names _ name.0 name.1;
     })
 
 -- what was added to the items of earlier servers

@@ -4,6 +4,7 @@ use Rattle.std.specs.List.{list_all, list_any}
 use Rattle.std.proofs.lemmas.Bool.{and_from, lt-ltb, not_from_false}
 use Rattle.tp_types.proofs.ListLemmas.{all_push, none_passes}
 use Rattle.serde_json.specs.Data.{Data}
+use Rattle.tp_types.specs.Spelling.{is_name}
 use Rattle.tp_model.specs.Words.{CredId, Query, Scenario, ServerDecl, Transaction}
 use Rattle.tp_model.specs.Ids.{same_cred, same_name}
 use Rattle.tp_model.specs.Limits.{has_count}
@@ -17,7 +18,7 @@ use Rattle.tp_scenario.specs.Servers.{server_name}
 use Rattle.tp_scenario.specs.Txns.{credential_at, credential_in, credentials_at, level_at, queries_at, query_in, scheme_at, txn_at, txn_in, txn_name, txn_name_at, txns_at}
 use Rattle.tp_scenario.specs.Values.{field, name_at, object_at}
 use Rattle.tp_scenario.proofs.GrowingLists.{any_agrees, any_made, distinct_more}
-use Rattle.tp_scenario.proofs.Inverses.{apart_ok, count_or_ok, each_count, each_keeps, items_ok, items_or_ok, named_apart, new_name_ok, ok_same, refusal_ok, then_ok, used_at_ok}
+use Rattle.tp_scenario.proofs.Inverses.{apart_ok, count_or_ok, each_count, each_keeps, items_ok, items_or_ok, named_apart, new_name_ok, new_name_spelled, ok_same, refusal_ok, then_ok, used_at_ok}
 use Rattle.tp_scenario.proofs.KeptQueries.{query_kept}
 use Rattle.tp_scenario.proofs.NameLemmas.{same_turned, turned}
 
@@ -59,9 +60,10 @@ queries_kept sc items at value queries count e =
 pub record IsNewTxn (sc : Scenario) (names : Names) (txn : Transaction) : Type 0 where
   pub valid : is_valid_txn sc txn ≡ true
   pub new : place_of txn.name names ≡ None
+  pub spelled : is_name txn.name ≡ true
 
 name_kept : (sc : Scenario) (txns : Names) (at : ℕ) (value : Option Data) (name : List ℕ) → txn_name_at (map server_name sc.servers) txns at value ≡ Ok name
-    → (place_of name txns ≡ None) × (list_any (λ (server : ServerDecl). same_name name server.name) sc.servers ≡ false)
+    → (place_of name txns ≡ None) × (list_any (λ (server : ServerDecl). same_name name server.name) sc.servers ≡ false) × (is_name name ≡ true)
 unfolding txn_name_at
 name_kept sc txns at value name e =
     let first = then_ok _ _ _ e in
@@ -69,9 +71,10 @@ name_kept sc txns at value name e =
       subst (λ (n : List ℕ). place_of n txns ≡ None) other.0 (new_name_ok _ txns value first.0 first.1),
       any_agrees (λ (server : ServerDecl). same_name name server.name) (λ (server : ServerDecl). same_name server.name name) (λ server. same_turned name server.name) sc.servers
           ∙ (sym (any_made server_name (λ (server : List ℕ). same_name server name) sc.servers) ∙ none_passes (λ (server : List ℕ). same_name server name) (map server_name sc.servers) other.1),
+      subst (λ (n : List ℕ). is_name n ≡ true) other.0 (new_name_spelled _ txns value first.0 first.1),
     )
 
-txn_kept : (sc : Scenario) (names : Declared) (at : ℕ) (d : Data) (txn : Transaction) → names.servers ≡ map server_name sc.servers → length names.creds ≡ length sc.creds → length names.items ≡ length sc.items
+pub txn_kept : (sc : Scenario) (names : Declared) (at : ℕ) (d : Data) (txn : Transaction) → names.servers ≡ map server_name sc.servers → length names.creds ≡ length sc.creds → length names.items ≡ length sc.items
     → txn_at names at d ≡ Ok txn → IsNewTxn sc names.txns txn
 unfolding txn_at
 txn_kept sc names at d txn servers creds items e =
@@ -90,6 +93,7 @@ txn_kept sc names at d txn servers creds items e =
       valid = and_from _ _ (and_from _ _ (creds_kept sc names.creds at _ presented.0 creds presented.1) (count_or_ok _ 1 16 8 _ rounds.0 refl rounds.1))
           (and_from _ _ (and_from _ _ asks.0 asks.1) (not_from_false _ named.1));
       new = named.0;
+      spelled = named.2;
     })
 
 pub txns_kept : (sc : Scenario) (names : Declared) (value : Option Data) → names.servers ≡ map server_name sc.servers → length names.creds ≡ length sc.creds → length names.items ≡ length sc.items

@@ -65,7 +65,7 @@ solid_by test solid (byte ∷ bytes) all =
     let parts = and_parts (test byte) (list_all test bytes) all in
     and_from _ _ (solid byte parts.0) (solid_by test solid bytes parts.1)
 
-solid_name : (text : List ℕ) → is_name text ≡ true → list_all is_no_space text ≡ true
+pub solid_name : (text : List ℕ) → is_name text ≡ true → list_all is_no_space text ≡ true
 solid_name [] h = absurd (cc)
 solid_name (first ∷ others) h =
     let outer = and_parts _ (list_all is_name_byte others) h in
@@ -78,7 +78,7 @@ solid_named text name e = elim (cases_Bool (is_name text)) [
   | inr other ↦ absurd (cc)
 ]
 
-solid_number : (text : List ℕ) → is_number text ≡ true → list_all is_no_space text ≡ true
+pub solid_number : (text : List ℕ) → is_number text ≡ true → list_all is_no_space text ≡ true
 solid_number [] h = absurd (cc)
 solid_number (digit ∷ []) h = and_from _ _ (digit_is_no_space digit h) refl
 solid_number (digit ∷ other ∷ digits) h =

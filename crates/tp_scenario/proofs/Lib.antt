@@ -1,6 +1,7 @@
 pub mod FewRules
 pub mod GrowingLists
 pub mod Inverses
+pub mod KeptNames
 pub mod KeptPolicies
 pub mod KeptQueries
 pub mod KeptRules
@@ -11,6 +12,7 @@ pub mod KeptTxns
 pub mod LastWords
 pub mod NameLemmas
 pub mod ReadLemmas
+pub mod SaidSteps
 pub mod SpelledQueries
 pub mod SpelledSteps
 pub mod SpelledValues

@@ -4,12 +4,13 @@ use Rattle.std.specs.Prelude.{IfOk}
 use Rattle.serde_json.specs.Data.{Data}
 use Rattle.serde_json.specs.Read.{read}
 use Rattle.tp_model.specs.Words.{Scenario}
+use Rattle.tp_model.specs.SpelledNames.{is_spelled}
 use Rattle.tp_model.specs.Valid.{is_valid}
 use Rattle.tp_scenario.specs.declared.fault.Fault.{Fault}
 use Rattle.tp_scenario.specs.declared.from_bytes.ScenarioError.{ScenarioError}
 use Rattle.tp_scenario.specs.Reads.{Says, SaysNoJson, SaysValue, IsOutOfMemory, IsText, answer_by, answer_to}
 use Rattle.tp_scenario.specs.Walk.{walk_of}
-use Rattle.tp_scenario.proofs.KeptRules.{walked_valid}
+use Rattle.tp_scenario.proofs.KeptRules.{walked_spelled, walked_valid}
 
 same_value : (bytes : List ℕ) (one other : Data) → read bytes ≡ Some one → read bytes ≡ Some other → one ≡ other
 same_value bytes one other e f = cc
@@ -55,3 +56,10 @@ pub valid_from : (value : Data) (result : Result Scenario ScenarioError) → IsO
 valid_from value (Ok sc) (inl out) = cc
 valid_from value (Ok sc) (inr e) = walked_valid value sc (read_so (walk_of value) sc (sym e))
 valid_from value (Err why) h = tt
+
+-- and its names are spelled as names
+pub spelled_from : (value : Data) (result : Result Scenario ScenarioError) → IsOutOfMemory result ⊎ (result ≡ answer_to value)
+    → IfOk result (λ sc. is_spelled sc ≡ true)
+spelled_from value (Ok sc) (inl out) = cc
+spelled_from value (Ok sc) (inr e) = walked_spelled value sc (read_so (walk_of value) sc (sym e))
+spelled_from value (Err why) h = tt

@@ -64,7 +64,7 @@ split_so (word ∷ words) text (here, inr more) = by_spaces more.spaces more.som
 abbrev IsCut : List ℕ → List (List ℕ) → List ℕ → Type 0
 IsCut word words text = (list_all is_no_space word ≡ true) × (((words ≡ []) × (text ≡ word)) ⊎ GoesOn (AreWords words) word text)
 
-word_of_filled : (word : List ℕ) → is_filled word ≡ true → list_all is_no_space word ≡ true → IsWord word
+pub word_of_filled : (word : List ℕ) → is_filled word ≡ true → list_all is_no_space word ≡ true → IsWord word
 word_of_filled [] filled solid = absurd (cc)
 word_of_filled (byte ∷ word) filled solid = record { some = omega arith; solid = solid }
 

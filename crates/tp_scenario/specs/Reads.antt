@@ -3,6 +3,7 @@ use Rattle.std.specs.Prelude.{◌≡◌, ◌⊎◌, true, ℕ, ◌≤◌, ◌<�
 use Rattle.serde_json.specs.Data.{Data}
 use Rattle.serde_json.specs.Read.{read}
 use Rattle.tp_model.specs.Words.{Scenario, Text}
+use Rattle.tp_model.specs.SpelledNames.{is_spelled}
 use Rattle.tp_model.specs.Valid.{is_valid}
 use Rattle.tp_scenario.specs.declared.fault.Fault.{Fault}
 use Rattle.tp_scenario.specs.declared.fault.Kind.{Kind}
@@ -89,3 +90,8 @@ IsTextOfOne =
 abbrev pub GivesValid : Type 0
 GivesValid =
     (value : Data) (scenario : Scenario) → walk_of value ≡ Ok scenario → is_valid scenario ≡ true
+
+-- and each name in it is spelled as a name
+abbrev pub GivesSpelled : Type 0
+GivesSpelled =
+    (value : Data) (scenario : Scenario) → walk_of value ≡ Ok scenario → is_spelled scenario ≡ true

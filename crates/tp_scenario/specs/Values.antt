@@ -1,7 +1,7 @@
 -- Single values of a scenario's JSON: their kind and spelling first, and then their range.
 use Rattle.std.specs.Prelude.{ℕ, ◌+◌, ◌&&◌, List, [], ◌∷◌, ◌++◌, ℤ, pos, negsuc, Bool, true, false, if◌then◌else◌, Option, Some, None, option_and_then, is_some, Result, Ok, Err, ok_or}
 use Rattle.std.specs.List.{list_all, list_any}
-use Rattle.serde_json.specs.Data.{Data, Items, no_items, item, Members, no_members, member}
+use Rattle.serde_json.specs.Data.{Data, string, array, Items, no_items, item, Members, no_members, member}
 use Rattle.serde_json.specs.Find.{get, as_number, as_str, as_array, as_i64, as_object}
 use Rattle.tp_types.specs.Spelling.{is_name}
 use Rattle.tp_model.specs.Limits.{is_between, is_from_to}
@@ -123,6 +123,15 @@ items_at path least most value = array_at path value >>= items_or_range path lea
 unfoldable pub items_or : Path → ℕ → Option Data → Result Items Fault
 items_or path most None = Ok no_items
 items_or path most (Some d) = items_at path 0 most (Some d)
+
+-- the members of the JSON array of some texts
+abbrev pub items_of : List (List ℕ) → Items
+items_of [] = no_items
+items_of (text ∷ texts) = item (string text) (items_of texts)
+
+-- the JSON array of these texts
+abbrev pub array_of : List (List ℕ) → Data
+array_of texts = array (items_of texts)
 
 -- the members in order, from one state to the next
 abbrev pub through : {S : Type 0} → (S → Data → Result S Fault) → S → Items → Result S Fault

@@ -36,6 +36,10 @@ abbrev pub all_names : List Admin → List Credential → Served → List Transa
 all_names admins creds served txns =
     record (names_before admins creds served) { txns = map txn_name txns }
 
+-- the names that a scenario declares
+abbrev pub names_of : Scenario → Declared
+names_of sc = all_names sc.admins sc.creds (record { servers = sc.servers; items = sc.items }) sc.txns
+
 unfoldable pub walk_of : Data → Result Scenario Fault
 walk_of d = do
   fields ← object_at Whole (Admins ∷ Servers ∷ Transactions ∷ [])

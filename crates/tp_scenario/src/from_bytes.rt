@@ -3,10 +3,11 @@ ghost use Rattle.std.specs.Prelude.{◌≡◌, ◌⊎◌, ◌<◌, length, true,
 ghost use Rattle.serde_json.specs.Read.{read as read_json};
 ghost use Rattle.tp_json.specs.View.{view};
 ghost use Rattle.tp_types.specs.declared.scenario.Scenario.{Scenario};
+ghost use Rattle.tp_model.specs.SpelledNames.{is_spelled};
 ghost use Rattle.tp_model.specs.Valid.{is_valid};
 ghost use Rattle.tp_scenario.specs.declared.from_bytes.ScenarioError.{ScenarioError};
 ghost use Rattle.tp_scenario.specs.Reads as reads;
-ghost use Rattle.tp_scenario.specs.Reads.{Says, IsOutOfMemory, IsText, GivesValid, HasOneAnswer, IsTextOfOne, length_max};
+ghost use Rattle.tp_scenario.specs.Reads.{Says, IsOutOfMemory, IsText, GivesSpelled, GivesValid, HasOneAnswer, IsTextOfOne, length_max};
 ghost use Rattle.tp_scenario.specs.Spelled.{HasOneSplit, ReadsQueries, SaysOneQuery, ReadsSteps, SaysOneStep, GivesQueries, GivesSteps};
 ghost use Rattle.tp_scenario.specs.Walk as walk;
 ghost use Rattle.tp_scenario.specs.mirrors.Refusing.{IsRefusal, IsTextError};
@@ -106,6 +107,7 @@ pub fn read(alloc: Global, bytes: &[u8]) -> Result<Scenario, ScenarioError>
         → IsOutOfMemory result ⊎ (result ≡ answer) }
     ensures text { IfOk result (λ scenario. IsText bytes.now scenario) }
     ensures valid { IfOk result (λ scenario. is_valid scenario ≡ true) }
+    ensures spelled { IfOk result (λ scenario. is_spelled scenario ≡ true) }
     ensures too_long { length_max < length bytes.now → result ≡ Err ScenarioError.TooLong }
 {
     if bytes.len() > LENGTH_MAX {
@@ -117,12 +119,13 @@ pub fn read(alloc: Global, bytes: &[u8]) -> Result<Scenario, ScenarioError>
 }
 
 /// Bytes have at most one answer, and are a text of at most one scenario. What the walk over a JSON value gives keeps every rule of a
-/// scenario.
+/// scenario, and its names are spelled as names.
 /// Its body is empty: a law that only a definition states could stay unproved.
 pub fn reading_is_exact()
     ensures answer { HasOneAnswer }
     ensures text { IsTextOfOne }
     ensures valid { GivesValid }
+    ensures spelled { GivesSpelled }
 {}
 
 /// What the text of a query or of a step says is told by a relation, and that is what is read of it: a query or a step is read of a

@@ -5,9 +5,10 @@
 //! - The answer is the one that the bytes have, or memory was refused (`read`: `answer`, `only`)
 //! - So each refusal comes exactly where its definition holds, with that path, unless memory is refused; and a
 //!   scenario is read exactly where the walk gives it (the same)
-//! - What is read is what the bytes say, and keeps every rule (`read`: `text`, `valid`)
-//! - What the walk gives keeps every rule on a scenario's value; nothing tests that again (`reading_is_exact`:
-//!   `valid`)
+//! - What is read is what the bytes say, keeps every rule, and has names that are spelled as names (`read`: `text`,
+//!   `valid`, `spelled`)
+//! - What the walk gives keeps every rule on a scenario's value, and its names are spelled as names; nothing tests
+//!   that again (`reading_is_exact`: `valid`, `spelled`)
 //! - TooLong is answered always above the limit (`read`: `too_long`)
 //! - Bytes have at most one answer, and are a text of at most one scenario (`reading_is_exact`: `answer`,
 //!   `text`)

@@ -4,7 +4,8 @@ use Rattle.std.proofs.lemmas.Bool.{and_parts, le-ltb, ltb-false, ltb-true}
 use Rattle.tp_types.specs.Each.{Each}
 use Rattle.tp_model.specs.Words.{Cause, Level, Newer, Reading, Verdict}
 use Rattle.tp_model.specs.Words.cause
-use Rattle.tp_scheme.specs.Gathered.{is_global_at, is_older, newer_by, newest_in, older}
+use Rattle.tp_scheme.specs.Gathered.{is_older, newer_by, newest_in, older}
+use Rattle.tp_model.specs.Levels.{is_global_at}
 use Rattle.tp_scheme.specs.Laws.{FindsTheFirstBelow, IsFirstBelow, IsNotBelow, NoneWhereNoneIsBelow}
 
 -- ---- one proof

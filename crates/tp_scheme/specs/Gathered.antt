@@ -1,11 +1,10 @@
 -- What a transaction has gathered, and what a reading of the master says of it.
-use Rattle.std.specs.Prelude.{ℕ, ◌&&◌, ◌++◌, List, [], ◌∷◌, slice_get, Bool, false, nat_lt, Option, option_map, unwrap_or}
+use Rattle.std.specs.Prelude.{ℕ, ◌&&◌, ◌++◌, List, [], ◌∷◌, slice_get, Bool, nat_lt, Option, option_map, unwrap_or}
 use Rattle.std.specs.List.{find}
-use Rattle.std.specs.Option.{option_map_or}
 use Rattle.tp_model.specs.Words.{AdminId, Cause, Instance, Level, Reading, Verdict, Version}
 use Rattle.tp_model.specs.Words.cause
 use Rattle.tp_model.specs.Ids.{same_admin}
-use Rattle.tp_model.specs.Levels.{is_global}
+use Rattle.tp_model.specs.Levels.{is_global_at}
 
 -- the proofs and the instances so far, each in the order in which they came
 pub record Gathered : Type 0 where
@@ -40,10 +39,6 @@ abbrev pub pin_of : List Verdict → AdminId → Option Version
 pin_of proofs admin = option_map version_of (find (is_of admin) proofs)
 
 -- ---- proofs that a reading of the master is above
-
--- an administrator that the list of levels lacks is under view consistency
-abbrev pub is_global_at : List Level → AdminId → Bool
-is_global_at levels admin = option_map_or is_global (slice_get levels admin.0) false
 
 -- the master's newest version of the administrator; 0, which is no version, where the reading has none
 abbrev pub newest_in : Reading → AdminId → Version

@@ -6,7 +6,8 @@ use Rattle.tp_model.specs.Words.cause
 use Rattle.tp_model.specs.Words.scheme
 use Rattle.tp_scheme.specs.declared.moves.Move.{Move}
 use Rattle.tp_scheme.specs.declared.moves.Point.{Point}
-use Rattle.tp_scheme.specs.Gathered.{is_global_at, is_of, newest_in, older, pin_of}
+use Rattle.tp_scheme.specs.Gathered.{is_of, newest_in, older, pin_of}
+use Rattle.tp_model.specs.Levels.{is_global_at}
 use Rattle.tp_scheme.specs.Moves.{next_move, proves_each}
 use Rattle.tp_scheme.specs.Moves.move
 use Rattle.tp_scheme.specs.Moves.point

@@ -6,7 +6,7 @@ ghost use Rattle.tp_scheme.specs.Gathered as rule;
 
 use std::alloc::Global;
 use std::marker::Model;
-use tp_model::{ADMINS_MAX, is_global};
+use tp_model::{ADMINS_MAX, is_global_at};
 use tp_types::{
     AdminId, Cause, Instance, Level, List, Newer, NoMemory, Place, Reading, TryClone, Verdict,
     Version,
@@ -36,15 +36,6 @@ fn newest_in(reading: &Reading, admin: AdminId) -> Version
     match reading.newest.get(admin.0 as usize) {
         None => Version(0),
         Some(version) => *version,
-    }
-}
-
-fn is_global_at(levels: &[Level], admin: AdminId) -> bool
-    ensures { result ≡ rule.is_global_at levels.now admin }
-{
-    match levels.get(admin.0 as usize) {
-        None => false,
-        Some(level) => is_global(*level),
     }
 }
 

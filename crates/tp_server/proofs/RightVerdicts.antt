@@ -12,7 +12,8 @@ use Rattle.tp_eval.specs.declared.policies.Certificate.{Certificate}
 use Rattle.tp_eval.specs.Uses.{rule_number, uses_in}
 use Rattle.tp_eval.proofs.CertificateLemmas.{exists_where_allowed, passes_where, presented_where}
 use Rattle.tp_eval.proofs.SoundLemmas.{Asked}
-use Rattle.tp_check.specs.OfHistory.{IsAt, holder_of, is_checked_of, is_verdict_checked}
+use Rattle.tp_check.specs.OfHistory.{IsAt, is_checked_of, is_verdict_checked}
+use Rattle.tp_cred.specs.Holder.{holder_of}
 use Rattle.tp_check.proofs.HistoryLemmas.{certified_there, held_there}
 use Rattle.tp_server.specs.Evaluation.{IsRightVerdict, certificate_of_item, certificate_of_query, certificate_of_version, evaluation, verdict_of}
 

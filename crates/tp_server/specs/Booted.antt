@@ -8,7 +8,7 @@ use Rattle.tp_model.specs.Words.action
 use Rattle.tp_model.specs.Words.body
 use Rattle.tp_model.specs.Words.log
 use Rattle.tp_model.specs.Words.{Action, Deed, Letter, Prepared, Scenario, ServerId, TxnId}
-use Rattle.tp_recover.specs.Held.{by_age, by_txn}
+use Rattle.tp_model.specs.ByAge.{by_age, by_txn}
 use Rattle.tp_recover.specs.declared.kept.Kept.{Kept}
 use Rattle.tp_server.specs.Row.{ballot_of, reply}
 use Rattle.tp_server.specs.State.{Server}

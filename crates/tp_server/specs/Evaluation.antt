@@ -7,7 +7,8 @@ use Rattle.tp_model.specs.Queries.{item_of, query_at}
 use Rattle.tp_eval.specs.declared.policies.Certificate.{Certificate}
 use Rattle.tp_eval.specs.Uses.{rule_number, uses_in}
 use Rattle.tp_eval.specs.Uses.{certificate}
-use Rattle.tp_check.specs.OfHistory.{IsAt, holder_of}
+use Rattle.tp_check.specs.OfHistory.{IsAt}
+use Rattle.tp_cred.specs.Holder.{holder_of}
 
 -- ---- the certificate, where there is such an item, such a query and such a version
 

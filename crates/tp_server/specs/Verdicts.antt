@@ -3,7 +3,7 @@
 use Rattle.std.specs.Prelude.{ℕ, ◌≡◌, ◌<◌, ◌^◌, List, [], ◌∷◌, None, Option, Some, length, map, option_map, slice_get, unwrap_or}
 use Rattle.tp_model.specs.Authorisation.{policy_at}
 use Rattle.tp_model.specs.Words.{AdminId, Deed, Item, ItemId, Policy, Scenario, Staple, Transaction, Verdict, Version}
-use Rattle.tp_round.specs.Laws.{wanted_of}
+use Rattle.tp_model.specs.WantedVersions.{wanted_of}
 use Rattle.tp_store.specs.Contents.{Contents}
 use Rattle.tp_store.specs.Rule.{newest_in, with_version}
 use Rattle.tp_server.specs.Evaluation.{evaluation}

@@ -2,7 +2,7 @@
 ghost use Rattle.std.specs.Prelude.{◌≡◌, ◌+◌, ◌<◌, ◌^◌, length, map, option_map, IfOk, OnOk};
 ghost use Rattle.tp_types.specs.Effect.{Gives};
 ghost use Rattle.tp_lock.specs.Rule as lock;
-ghost use Rattle.tp_recover.specs.Held.{by_age, by_txn};
+ghost use Rattle.tp_model.specs.ByAge.{by_age, by_txn};
 ghost use Rattle.tp_store.specs.Rule as rule;
 ghost use Rattle.tp_server.specs.Booted as booted;
 ghost use Rattle.tp_server.specs.mirrors.Inquiries as mirror;

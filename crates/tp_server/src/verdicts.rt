@@ -3,7 +3,7 @@ ghost use Rattle.std.specs.Prelude.{◌≡◌, ◌<◌, ◌^◌, [], filter, fin
 ghost use Rattle.tp_model.specs.Authorisation as authorisation;
 ghost use Rattle.tp_model.specs.Credentials as credentials;
 ghost use Rattle.tp_eval.specs.mirrors.Said.{IsIndexOf};
-ghost use Rattle.tp_round.specs.Laws as laws;
+ghost use Rattle.tp_model.specs.WantedVersions.{is_for};
 ghost use Rattle.tp_server.specs.Evaluation as evaluation;
 ghost use Rattle.tp_server.specs.Verdicts as verdicts;
 ghost use Rattle.tp_server.specs.Verdicts.{HasFewRules};
@@ -185,7 +185,7 @@ fn version_used<L: LockTable + Drop>(
 }
 
 fn wanted_for(want: &[(AdminId, Version)], admin: AdminId) -> Option<(AdminId, Version)>
-    ensures { result ≡ find (laws.is_for admin) want.now }
+    ensures { result ≡ find (is_for admin) want.now }
 {
     want.iter().copied().find(|wanted| wanted.0 == admin)
 }

@@ -3,6 +3,7 @@ pub mod BulkRun
 pub mod ByThemselves
 pub mod ListedRun
 pub mod PrintableRun
+pub mod ReadBack
 pub mod RunLemmas
 pub mod TopLemmas
 pub mod TracedRun

@@ -9,7 +9,7 @@ use Rattle.tp_model.specs.Words.{Ending, Fact, Scenario, Step}
 use Rattle.tp_top.specs.Input.{Reads, TakesAll}
 use Rattle.tp_bulk.specs.Bulk.{scenario_of}
 use Rattle.tp_bulk.specs.Line.{line_of}
-use Rattle.tp_report.specs.Printable.{is_printable}
+use Rattle.tp_model.specs.Printable.{is_printable}
 use Rattle.tp_report.specs.ReportText.{report_text}
 use Rattle.tp_trace.specs.Blocks.{ending_text, trace_lines, trace_text}
 use Rattle.tp_trace.specs.Laws.{told_of}

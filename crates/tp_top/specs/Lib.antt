@@ -1,5 +1,6 @@
 pub mod Headline
 pub mod Input
+pub mod Laws
 pub mod Listed
 pub mod Refusals
 pub mod Run

@@ -1,5 +1,5 @@
 //! The top call of the cluster's program, and what stands directly under it: runs to their end, their traces, the large
-//! scenario's run, and the lines of refusals.
+//! scenario's run, and the lines of refusals. And the law that the text of a step is read back as this step.
 //!
 //! What is promised, with the contract that carries it:
 //!
@@ -42,6 +42,10 @@
 //!   it comes to rest; or any of them by NoMemory (`Top.EndsRightly`) (`tpvc`: `complete`)
 //! - For the command `bulk`, where the output's count of faults did not rise, the answer is Done or NoMemory (`tpvc`:
 //!   `finished`)
+//! - In a valid scenario whose names are spelled as names, as each is that is read, the text of a step (of `tp_report`)
+//!   that names what exists, and whose numbers are in their ranges, says this step and no other one: a mail's number has
+//!   at most 15 digits there. And of at most 100,000 such texts, where the scenario lists steps, these steps are read in
+//!   their order (`laws::steps_are_read_back`: `steps`, `lists`)
 //!
 //! What a source or sink does not tell is not known: the standard streams of the program tell none of their
 //! bytes, so of them the clauses say nothing.
@@ -50,6 +54,7 @@
 mod answer;
 mod bulk;
 mod ended;
+pub mod laws;
 mod listed;
 mod refusals;
 mod status;

@@ -4,21 +4,12 @@ ghost use Rattle.tp_top.specs.Refusals as refusals;
 ghost use Rattle.tp_report.specs.ReportText.{txn_name};
 
 use crate::listed::StepRefusal;
-use itoa::Integer;
 use std::alloc::Global;
 use tp_machine::StepError;
 use tp_policy_text::ParseError;
-use tp_report::piece::{put, put_actor, put_admin, put_number, put_txn};
+use tp_report::piece::{put, put_actor, put_admin, put_after, put_number, put_txn};
 use tp_scenario::ScenarioError;
 use tp_types::{List, NoMemory, Scenario, Text, TxnId};
-
-/// Puts a word, and a number after it.
-fn put_after<I: Integer>(line: &mut Vec<u8>, word: &[u8], number: I) -> Result<(), NoMemory>
-    ensures { OnOk result (line.new.items ≡ line.old.items ++ (word.now ++ I.text number)) }
-{
-    put(line, word)?;
-    put_number(line, number)
-}
 
 /// Puts a word, and a transaction's name after it.
 fn put_txn_after(

@@ -10,11 +10,11 @@ use Rattle.tp_machine.specs.Views.{StandsAt, cut_off, server_at}
 use Rattle.tp_machine.specs.declared.error.StepError.{StepError}
 use Rattle.tp_model.specs.Words.{Actor, ItemId, Record, Scenario, ServerId, Step}
 use Rattle.tp_model.specs.Words.actor
+use Rattle.tp_report.specs.StepText.{step_text}
 use Rattle.tp_server.specs.State.{Server}
 use Rattle.tp_trace.specs.Blocks.{acting, block, durable_lines, fate_lines, gained, lines_between, mail_at, now_lines, server_now, state_lines, step_kind}
 use Rattle.tp_trace.specs.Lines.{Line, line_of, lines_text, mail_line}
 use Rattle.tp_trace.specs.Seen.{changed_lines, item_line, items_of, left_lines, seen_lines, seen_of, seen_up, value_if, values_from, values_left}
-use Rattle.tp_trace.specs.Steps.{step_text}
 use Rattle.tp_trace.specs.Told.{all_told}
 use Rattle.tp_trace.specs.declared.blocks.Noted.{Noted}
 use Rattle.tp_trace.specs.declared.lines.Kind.TheVariants as kind

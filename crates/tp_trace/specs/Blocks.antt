@@ -9,12 +9,12 @@ use Rattle.tp_model.specs.Words.{Actor, Ending, Mail, Record, Scenario, ServerId
 use Rattle.tp_model.specs.Words.actor
 use Rattle.tp_model.specs.Words.step
 use Rattle.tp_report.specs.ReportText.{quiet_tokens, server_name, server_tokens, txn_name}
+use Rattle.tp_report.specs.StepText.{step_text}
 use Rattle.tp_report.specs.Tokens.{text_of}
 use Rattle.tp_server.specs.State.{Server}
 use Rattle.tp_trace.specs.Lines.{Line, line_of, lines_text, mail_line, record_line}
 use Rattle.tp_trace.specs.Phases.{awaits_text}
 use Rattle.tp_trace.specs.Seen.{changed_lines}
-use Rattle.tp_trace.specs.Steps.{step_text}
 use Rattle.tp_trace.specs.Told.{all_told}
 use Rattle.tp_trace.specs.declared.lines.Kind.{Kind}
 use Rattle.tp_trace.specs.declared.lines.Kind.TheVariants as kind

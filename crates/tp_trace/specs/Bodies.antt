@@ -6,7 +6,8 @@ use Rattle.tp_model.specs.Words.answer
 use Rattle.tp_model.specs.Words.body
 use Rattle.tp_model.specs.Words.vote
 use Rattle.tp_report.specs.ReportText.{admin_name, outcome_word, txn_name}
-use Rattle.tp_trace.specs.Words.{actor_word, joined, no_words, of_admin_words, staple_words, staple_words_if, verdict_word, versions_word, want_words, word_if}
+use Rattle.tp_report.specs.StepText.{actor_word}
+use Rattle.tp_trace.specs.Words.{joined, no_words, of_admin_words, staple_words, staple_words_if, verdict_word, versions_word, want_words, word_if}
 
 -- the kind of a mail
 abbrev pub body_kind : Body → List ℕ

@@ -5,7 +5,6 @@ pub mod Lines
 pub mod Phases
 pub mod Records
 pub mod Seen
-pub mod Steps
 pub mod Told
 pub mod Why
 pub mod Words

@@ -2,10 +2,10 @@
 use Rattle.std.specs.Prelude.{ℕ, List, ◌++◌, codes, decimal}
 use Rattle.std.specs.List.{flat_map}
 use Rattle.tp_model.specs.Words.{Actor, Mail, Record, Scenario}
+use Rattle.tp_report.specs.StepText.{actor_word}
 use Rattle.tp_report.specs.Tokens.{Token, text_of}
 use Rattle.tp_trace.specs.Bodies.{mail_text}
 use Rattle.tp_trace.specs.Records.{record_text}
-use Rattle.tp_trace.specs.Words.{actor_word}
 use Rattle.tp_trace.specs.declared.lines.Kind.{Kind}
 use Rattle.tp_trace.specs.declared.lines.Kind.TheVariants as kind
 

@@ -1,5 +1,5 @@
 -- What a coordinator awaits, as words.
-use Rattle.std.specs.Prelude.{ℕ, List, [], ◌∷◌, ◌++◌, map, filter, length, slice_get, Option, Some, None, codes, decimal}
+use Rattle.std.specs.Prelude.{ℕ, List, [], ◌∷◌, ◌++◌, length, slice_get, Option, Some, None, codes, decimal}
 use Rattle.std.specs.Option.{option_map_or}
 use Rattle.tp_model.specs.Words.{Outcome, Scenario, ServerId, Transaction, TxnId}
 use Rattle.tp_coord.specs.State.{Coordinator}
@@ -9,9 +9,8 @@ use Rattle.tp_coord.specs.declared.coordinator.Phase.TheVariants as phase
 use Rattle.tp_coord.specs.declared.coordinator.Span.{Span}
 use Rattle.tp_coord.specs.declared.coordinator.Span.TheVariants as span
 use Rattle.tp_report.specs.ReportText.{outcome_word, server_name}
-use Rattle.tp_round.specs.Judge.{is_missing}
+use Rattle.tp_round.specs.Judge.{awaited_in}
 use Rattle.tp_round.specs.declared.round.Round.{Round}
-use Rattle.tp_round.specs.declared.round.Target.{Target}
 use Rattle.tp_trace.specs.Words.{joined}
 
 -- the number of a transaction's queries, which is that of the last
@@ -41,13 +40,6 @@ abbrev pub home_awaited : Scenario → Option ServerId → List ℕ
 home_awaited sc None = codes " awaits=-"
 home_awaited sc (Some at) = codes " awaits=" ++ server_name sc at
 
-abbrev pub server_of_target : Target → ServerId
-server_of_target target = target.server
-
--- the servers of a round that have not replied
-abbrev pub missing_servers : Round → List ServerId
-missing_servers round = map server_of_target (filter is_missing round.targets)
-
 -- a decision was sent: who has not acknowledged it
 abbrev pub ending_words : Scenario → Outcome → List ServerId → List ℕ
 ending_words sc outcome [] = codes "finished"
@@ -66,7 +58,7 @@ phase_words sc c (phase.Asking over round) =
     codes "asking" ++ round_words sc c over round ++ codes " awaits=Authority"
 phase_words sc c (phase.Checking over round staple) =
     codes "checking" ++ round_words sc c over round
-    ++ servers_awaited sc (missing_servers round)
+    ++ servers_awaited sc (awaited_in round)
 phase_words sc c (phase.Reading over round) =
     codes "reading" ++ round_words sc c over round ++ codes " awaits=Master"
 phase_words sc c (phase.Voting awaited) =

@@ -2,17 +2,9 @@
 use Rattle.std.specs.Prelude.{ℕ, ◌+◌, List, [], ◌∷◌, ◌++◌, Option, Some, None, codes, decimal, length}
 use Rattle.std.specs.Fmt.{signed_decimal}
 use Rattle.std.specs.List.{flat_map}
-use Rattle.tp_model.specs.Words.{Actor, AdminId, Deed, No, Scenario, Staple, Verdict, Version}
-use Rattle.tp_model.specs.Words.actor
+use Rattle.tp_model.specs.Words.{AdminId, Deed, No, Scenario, Staple, Verdict, Version}
 use Rattle.tp_model.specs.Words.no
-use Rattle.tp_report.specs.ReportText.{action_word, admin_name, item_name, query_word, server_name, txn_name}
-
--- a coordinator is named as its transaction; the offices with a capital, which no name of a scenario has
-abbrev pub actor_word : Scenario → Actor → List ℕ
-actor_word sc (actor.Server at) = server_name sc at
-actor_word sc (actor.Coordinator txn) = txn_name sc txn
-actor_word sc actor.Master = codes "Master"
-actor_word sc actor.Authority = codes "Authority"
+use Rattle.tp_report.specs.ReportText.{action_word, admin_name, item_name, query_word}
 
 -- ` KEY=VALUE`, or nothing where there is no value
 abbrev pub word_if : List ℕ → Option (List ℕ) → List ℕ

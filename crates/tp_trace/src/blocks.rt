@@ -9,7 +9,7 @@ ghost use Rattle.tp_model.specs.Words.{Record};
 ghost use Rattle.tp_machine.specs.WorldView.{Does, Refuses};
 ghost use Rattle.tp_trace.specs.Blocks as blocks;
 ghost use Rattle.tp_trace.specs.Lines.{line_of, line_text, lines_text};
-ghost use Rattle.tp_trace.specs.Steps.{step_text};
+ghost use Rattle.tp_report.specs.StepText.{step_text};
 ghost use Rattle.tp_trace.specs.Seen as seen;
 ghost use Rattle.tp_trace.specs.mirrors.Noted as mirror;
 
@@ -18,12 +18,11 @@ use crate::lines::{
 };
 use crate::phases::awaits;
 use crate::seen::{Seen, items_of, nothing_seen, put_left, put_seen, see};
-use crate::steps::put_step_text;
 use crate::told::put_all_told;
-use crate::words::put_after;
 use std::alloc::Global;
 use tp_machine::{Locks, StepError, World};
-use tp_report::piece::{put, put_server, put_txn};
+use tp_report::piece::{put, put_after, put_server, put_txn};
+use tp_report::put_step_text;
 use tp_server::Server;
 use tp_types::{Actor, List, Mail, NoMemory, Place, Record, Scenario, ServerId, Step, TxnId, both};
 

@@ -5,10 +5,11 @@ ghost use Rattle.tp_trace.specs.Bodies as bodies;
 ghost use Rattle.tp_trace.specs.Words.{verdict_word, word_if};
 
 use crate::words::{
-    Member, put_actor, put_after, put_if, put_joined, put_no, put_of_admin, put_staple,
-    put_staple_if, put_versions, put_wants,
+    Member, put_if, put_joined, put_no, put_of_admin, put_staple, put_staple_if, put_versions,
+    put_wants,
 };
-use tp_report::piece::{put, put_admin, put_number, put_txn};
+use tp_report::piece::{put, put_admin, put_after, put_number, put_txn};
+use tp_report::put_actor_word;
 use tp_types::{
     Answer, Body, DoneReply, List, Mail, Newer, NewestReply, NoMemory, Outcome, PrepareRequest,
     QueryRequest, Scenario, TellReply, ValidateRequest, Verdict, VerdictsReply, Version, Vote,
@@ -22,9 +23,9 @@ pub fn put_mail(out: &mut Vec<u8>, scenario: &Scenario, mail: &Mail) -> Result<(
 {
     put_number(out, mail.number)?;
     put(out, b" ")?;
-    put_actor(out, scenario, mail.letter.from)?;
+    put_actor_word(out, scenario, mail.letter.from)?;
     put(out, b" ")?;
-    put_actor(out, scenario, mail.letter.to)?;
+    put_actor_word(out, scenario, mail.letter.to)?;
     put(out, b" ")?;
     put_body(out, scenario, &mail.letter.body)
 }

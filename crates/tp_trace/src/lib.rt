@@ -4,8 +4,8 @@
 //!
 //! - A step is done exactly as `World::step` does it, and the lines of its block are put, and nothing else (`put_step`:
 //!   `does`, `text`); where it is refused nothing is put (`refused`, `nothing`)
-//! - The words of a step, of a mail and of a record are exactly the defined ones (`put_step_text`, `put_mail`,
-//!   `put_record`)
+//! - The words of a mail and of a record are exactly the defined ones (`put_mail`, `put_record`); those of a step are
+//!   of `tp_report` (`put_step_text`)
 //! - The report of a run is in its trace: in the lines of its steps, and the last lines (`traces_tell_reports`)
 //!
 //! Nothing of it is kept between two steps: before a step the ends of lists are taken, and what is seen of the one
@@ -19,7 +19,6 @@ mod lines;
 mod phases;
 mod records;
 mod seen;
-mod steps;
 mod told;
 mod why;
 mod words;
@@ -29,5 +28,4 @@ pub use bodies::put_mail;
 pub use lines::Kind;
 pub use records::put_record;
 pub use seen::Seen;
-pub use steps::put_step_text;
 pub use told::traces_tell_reports;

@@ -4,8 +4,8 @@ ghost use Rattle.tp_trace.specs.Lines.{front_text, kind_word, line_text, lines_t
 
 use crate::bodies::put_mail;
 use crate::records::put_record;
-use crate::words::put_actor;
 use tp_report::piece::{put, put_number};
+use tp_report::put_actor_word;
 use tp_types::{Actor, Mail, NoMemory, Place, Record, Scenario};
 
 /// What a line says, which is its second word.
@@ -127,7 +127,7 @@ pub(crate) fn put_record_line(
         ≡ out.old.items ++ line_text (record_line scenario.now place kind actor record.now)) }
 {
     put_front(out, place, kind)?;
-    put_actor(out, scenario, actor)?;
+    put_actor_word(out, scenario, actor)?;
     put(out, b" ")?;
     put_record(out, scenario, record)?;
     put(out, b"\n")

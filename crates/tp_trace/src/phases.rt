@@ -3,12 +3,14 @@ ghost use Rattle.std.specs.Prelude.{◌≡◌, ◌++◌, IfOk, OnOk, codes};
 ghost use Rattle.std.specs.Option.{option_copied};
 ghost use Rattle.tp_report.specs.ReportText.{outcome_word};
 ghost use Rattle.tp_coord.specs.Row.{home_of};
+ghost use Rattle.tp_round.specs.Judge as judge;
 ghost use Rattle.tp_trace.specs.Phases as phases;
+ghost use Rattle.tp_trace.specs.mirrors.Offices as offices;
 
-use crate::words::{put_after, put_joined};
+use crate::words::put_joined;
 use std::alloc::Global;
 use tp_coord::{Coordinator, Phase, Span};
-use tp_report::piece::{put, put_server};
+use tp_report::piece::{put, put_after, put_server};
 use tp_round::Round;
 use tp_types::{List, NoMemory, Outcome, Scenario, ServerId, TxnId};
 
@@ -56,44 +58,22 @@ fn put_phase(
     let turn = coordinator.turn;
     match &coordinator.phase {
         Phase::Idle => put(out, b"idle"),
-        Phase::Stapling { query } => {
-            put_asked(
-                out,
-                b"asking",
-                turn,
-                u64::from(*query),
-                b" awaits=Authority",
-            )
-        }
+        Phase::Stapling { query } => { put_asked(out, Office::Authority, turn, u64::from(*query)) }
         Phase::Querying { query, .. } => put_querying(out, scenario, coordinator, *query),
-        Phase::Probing { query } => {
-            put_asked(out, b"reading", turn, u64::from(*query), b" awaits=Master")
+        Phase::Probing { query } => put_asked(out, Office::Master, turn, u64::from(*query)),
+        Phase::Asking { span, round } => {
+            put_in_round(out, Office::Authority, scenario, coordinator, *span, round)
         }
-        Phase::Asking { span, round } => put_in_round(
-            out,
-            b"asking",
-            scenario,
-            coordinator,
-            *span,
-            round,
-            b" awaits=Authority",
-        ),
         Phase::Checking { span, round, .. } => {
             put_checking(out, alloc, scenario, coordinator, *span, round)
         }
-        Phase::Reading { span, round } => put_in_round(
-            out,
-            b"reading",
-            scenario,
-            coordinator,
-            *span,
-            round,
-            b" awaits=Master",
-        ),
+        Phase::Reading { span, round } => {
+            put_in_round(out, Office::Master, scenario, coordinator, *span, round)
+        }
         Phase::Voting { awaited } => put_voting(out, scenario, coordinator, awaited),
         Phase::VoteProbing => {
             let query = queries_of(scenario, coordinator.txn);
-            put_asked(out, b"reading", turn, query, b" awaits=Master")
+            put_asked(out, Office::Master, turn, query)
         }
         Phase::Ending { outcome, awaited } => put_ending(out, scenario, *outcome, awaited),
     }
@@ -126,21 +106,43 @@ fn put_turn(out: &mut Vec<u8>, turn: u32, query: u64) -> Result<(), NoMemory>
     put_after(out, b" q=", query)
 }
 
-/// Puts a word, the turn and the query, and who is awaited.
-fn put_asked(
-    out: &mut Vec<u8>,
-    word: &[u8],
-    turn: u32,
-    query: u64,
-    awaits: &[u8],
-) -> Result<(), NoMemory>
+/// The office of which something is asked.
+#[derive(Clone, Copy)]
+enum Office {
+    Authority,
+    Master,
+}
+
+/// What is done while the office is awaited.
+fn office_verb(office: Office) -> &'static [u8]
+    ensures { result.now ≡ offices.office_verb office }
+{
+    match office {
+        Office::Authority => b"asking",
+        Office::Master => b"reading",
+    }
+}
+
+fn office_awaited(office: Office) -> &'static [u8]
+    ensures { result.now ≡ offices.office_awaited office }
+{
+    match office {
+        Office::Authority => b" awaits=Authority",
+        Office::Master => b" awaits=Master",
+    }
+}
+
+/// Puts what is asked of an office with the turn and the query.
+fn put_asked(out: &mut Vec<u8>, office: Office, turn: u32, query: u64) -> Result<(), NoMemory>
     ensures { OnOk result
         (out.new.items
-        ≡ out.old.items ++ (word.now ++ phases.turn_words turn query ++ awaits.now)) }
+        ≡ out.old.items
+        ++ (offices.office_verb office ++ phases.turn_words turn query
+        ++ offices.office_awaited office)) }
 {
-    put(out, word)?;
+    put(out, office_verb(office))?;
     put_turn(out, turn, query)?;
-    put(out, awaits)
+    put(out, office_awaited(office))
 }
 
 /// Puts the turn, the last query and the number of a round.
@@ -160,25 +162,25 @@ fn put_round(
     put_after(out, b" round=", round.number)
 }
 
-/// Puts a word, a round, and which office is awaited.
+/// Puts what is asked of an office in a round.
 fn put_in_round(
     out: &mut Vec<u8>,
-    word: &[u8],
+    office: Office,
     scenario: &Scenario,
     coordinator: &Coordinator,
     span: Span,
     round: &Round,
-    awaits: &[u8],
 ) -> Result<(), NoMemory>
     ensures { OnOk result
         (out.new.items
         ≡ out.old.items
-        ++ (word.now ++ phases.round_words scenario.now coordinator.now span round.now
-        ++ awaits.now)) }
+        ++ (offices.office_verb office
+        ++ phases.round_words scenario.now coordinator.now span round.now
+        ++ offices.office_awaited office)) }
 {
-    put(out, word)?;
+    put(out, office_verb(office))?;
     put_round(out, scenario, coordinator, span, round)?;
-    put(out, awaits)
+    put(out, office_awaited(office))
 }
 
 fn put_querying(
@@ -237,17 +239,17 @@ fn put_checking(
         (out.new.items
         ≡ out.old.items
         ++ (codes "checking" ++ phases.round_words scenario.now coordinator.now span round.now
-        ++ phases.servers_awaited scenario.now (phases.missing_servers round.now))) }
+        ++ phases.servers_awaited scenario.now (judge.awaited_in round.now))) }
 {
     put(out, b"checking")?;
     put_round(out, scenario, coordinator, span, round)?;
-    let missing = missing_servers(alloc, round)?;
+    let missing = awaited_in(alloc, round)?;
     put_servers(out, scenario, &missing)
 }
 
-/// The servers of a round that have not replied.
-fn missing_servers(alloc: Global, round: &Round) -> Result<List<ServerId>, NoMemory>
-    ensures { IfOk result (λ missing. missing ≡ phases.missing_servers round.now) }
+/// The servers of a round whose replies are awaited.
+fn awaited_in(alloc: Global, round: &Round) -> Result<List<ServerId>, NoMemory>
+    ensures { IfOk result (λ missing. missing ≡ judge.awaited_in round.now) }
 {
     let mut missing = List::new(alloc);
     for target in round.targets.as_slice() {

@@ -3,8 +3,8 @@ ghost use Rattle.std.specs.Prelude.{◌≡◌, ◌++◌, OnOk, codes};
 ghost use Rattle.tp_report.specs.ReportText.{outcome_word, txn_name};
 ghost use Rattle.tp_trace.specs.Records as records;
 
-use crate::words::{put_after, put_joined, put_no, put_of_admin, put_versions};
-use tp_report::piece::{put, put_txn};
+use crate::words::{put_joined, put_no, put_of_admin, put_versions};
+use tp_report::piece::{put, put_after, put_txn};
 use tp_types::{
     Cause, Decided, Decision, No, NoMemory, Outcome, Prepared, Record, Scenario, Settled, TxnId,
 };

@@ -8,12 +8,12 @@ ghost use Rattle.tp_trace.specs.Lines.{line_text, lines_text};
 ghost use Rattle.tp_trace.specs.Seen as seen;
 
 use crate::lines::{Kind, put_front};
-use crate::words::{put_action, put_admin_at, put_after};
+use crate::words::{put_action, put_admin_at};
 use std::alloc::Global;
 use tp_lock::LockEntry;
 use tp_machine::Locks;
 use tp_recover::kept_of;
-use tp_report::piece::{put, put_item, put_server, put_txn};
+use tp_report::piece::{put, put_after, put_item, put_server, put_txn};
 use tp_server::Server;
 use tp_store::Values;
 use tp_types::{

@@ -3,26 +3,14 @@ ghost use Rattle.std.specs.Prelude.{◌≡◌, ◌++◌, ℕ, List, OnOk, codes,
 ghost use Rattle.std.specs.List.{flat_map};
 ghost use Rattle.tp_model.specs.Words.{Scenario};
 ghost use Rattle.tp_report.specs.ReportText.{action_word, admin_name, query_word};
-ghost use Rattle.tp_trace.specs.Words.{actor_word, behind_comma, deed_word, joined, no_words, of_admin_words, ruling_word, staple_words, staple_words_if, verdict_word, version_word, versions_behind, versions_word, want_word, want_words, word_if};
+ghost use Rattle.tp_trace.specs.Words.{behind_comma, deed_word, joined, no_words, of_admin_words, ruling_word, staple_words, staple_words_if, verdict_word, version_word, versions_behind, versions_word, want_word, want_words, word_if};
 ghost use Rattle.tp_report.specs.ReportText.{server_name};
 
 use itoa::Integer;
-use tp_report::piece::{put, put_admin, put_item, put_number, put_server, put_txn};
+use tp_report::piece::{put, put_admin, put_after, put_item, put_number, put_server};
 use tp_types::{
-    Action, Actor, AdminId, Deed, List, No, NoMemory, Scenario, ServerId, Staple, Verdict, Version,
+    Action, AdminId, Deed, List, No, NoMemory, Scenario, ServerId, Staple, Verdict, Version,
 };
-
-/// Puts a word, and a number behind it.
-pub(crate) fn put_after<I: Integer>(
-    out: &mut Vec<u8>,
-    word: &[u8],
-    number: I,
-) -> Result<(), NoMemory>
-    ensures { OnOk result (out.new.items ≡ out.old.items ++ (word.now ++ I.text number)) }
-{
-    put(out, word)?;
-    put_number(out, number)
-}
 
 /// Puts a word and a number behind it, where there is one.
 pub(crate) fn put_if<I: Integer>(
@@ -36,22 +24,6 @@ pub(crate) fn put_if<I: Integer>(
     match number {
         None => Ok(()),
         Some(number) => put_after(out, word, number),
-    }
-}
-
-/// Puts an actor's name. The offices are named with a capital, so that no server has their names.
-pub(crate) fn put_actor(
-    out: &mut Vec<u8>,
-    scenario: &Scenario,
-    actor: Actor,
-) -> Result<(), NoMemory>
-    ensures { OnOk result (out.new.items ≡ out.old.items ++ actor_word scenario.now actor) }
-{
-    match actor {
-        Actor::Server(at) => put_server(out, scenario, at),
-        Actor::Coordinator(txn) => put_txn(out, scenario, txn),
-        Actor::Master => put(out, b"Master"),
-        Actor::Authority => put(out, b"Authority"),
     }
 }
 

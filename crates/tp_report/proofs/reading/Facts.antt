@@ -14,7 +14,7 @@ use Rattle.tp_types.specs.declared.records.Cause.TheVariants.{Denied, No, Died, 
 use Rattle.tp_types.specs.declared.records.Decision.TheVariants.{Commit as Commits, Abort as Aborts}
 use Rattle.tp_types.specs.declared.records.Outcome.TheVariants.{Commit, Abort}
 use Rattle.tp_types.specs.declared.scenario.Actor.TheVariants.{Server, Coordinator, Master, Authority}
-use Rattle.tp_report.specs.Printable.{are_printable_mets, is_i128, is_printable_cause, is_printable_commit, is_printable_crash, is_printable_deed, is_printable_fact, is_printable_instance, is_printable_met, is_printable_proof, is_printable_what, is_u32, is_u64}
+use Rattle.tp_model.specs.Printable.{are_printable_mets, is_i128, is_printable_cause, is_printable_commit, is_printable_crash, is_printable_deed, is_printable_fact, is_printable_instance, is_printable_met, is_printable_proof, is_printable_what, is_u32, is_u64}
 use Rattle.tp_report.specs.ReportText.{action_word, actor_name, admin_name, item_name, at_tokens, below, cause_tokens, cred_name, deed_tokens, earlier_met_tokens, earlier_use, fact_tokens, instance_front, instance_line, instance_tokens, instances_tokens, mets_tokens, outcome_word, policy_tokens, proof_front, proof_line, proof_tokens, query_tokens, query_word, reading_word, rule_word, server_name, some_uses_tokens, txn_name, uses_tokens, what_tokens}
 use Rattle.tp_report.specs.Tokens.{Token, last_word, word, word_before_comma}
 use Rattle.tp_report.proofs.reading.Names.{Fine, admin_taken, cred_taken, declared_name, item_taken, server_taken, txn_taken}

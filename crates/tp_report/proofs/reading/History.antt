@@ -16,7 +16,8 @@ use Rattle.tp_model.specs.Ids.{same_name}
 use Rattle.tp_model.specs.Limits.{has_count, is_from_to}
 use Rattle.tp_model.specs.Valid.{are_by_server, are_distinct, are_valid_from, has_valid_creds, is_name_of_server, is_valid, is_valid_admin, is_valid_cred, is_valid_item, is_valid_query, is_valid_txn, same_admin_name, same_cred_name, same_item_name, same_server_name, same_txn_name}
 use Rattle.tp_report.specs.Laws.{IsTold, TellsOneHistory}
-use Rattle.tp_report.specs.Printable.{has_cred_none, is_called_none, is_i128, is_printable, is_printable_ending, is_printable_fact, is_spelled, is_u64}
+use Rattle.tp_model.specs.SpelledNames.{is_spelled}
+use Rattle.tp_model.specs.Printable.{has_cred_none, is_called_none, is_i128, is_printable, is_printable_ending, is_printable_fact, is_u64}
 use Rattle.tp_report.specs.ReportText.{fact_tokens, quiet_tokens, report_text, report_tokens, server_tokens}
 use Rattle.tp_report.specs.Tokens.{Token, last_word, text_of, word}
 use Rattle.tp_report.proofs.reading.Facts.{Told, facts_way}

@@ -8,7 +8,7 @@ use Rattle.std.proofs.lemmas.List.{append-nil, append_assoc, map-append}
 use Rattle.tp_types.specs.Each.{Each}
 use Rattle.tp_types.proofs.EachLemmas.{each_from_all, each_get, missing}
 use Rattle.tp_model.specs.Words.{Ending, Fact, Item, ItemId, Scenario, ServerDecl}
-use Rattle.tp_report.specs.Printable.{is_i128, is_u64}
+use Rattle.tp_model.specs.Printable.{is_i128, is_u64}
 use Rattle.tp_report.specs.ReportText.{item_name, item_tokens, quiet_tokens, server_tokens, value_word}
 use Rattle.tp_report.specs.Tokens.{Token, last_word, word}
 use Rattle.tp_report.proofs.reading.Names.{AreNames, Fine, declared_name}

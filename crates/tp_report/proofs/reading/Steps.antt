@@ -15,7 +15,7 @@ use Rattle.std.proofs.lemmas.Option.{same_Some}
 use Rattle.tp_model.specs.Ids.{same_name}
 use Rattle.tp_model.specs.Valid.{are_distinct}
 use Rattle.tp_types.specs.Spelling.{is_digit}
-use Rattle.tp_report.specs.Printable.{is_i128}
+use Rattle.tp_model.specs.Printable.{is_i128}
 use Rattle.tp_report.specs.Tokens.{Token}
 use Rattle.tp_report.proofs.reading.Tree.{Either, Exactly, Leads, Named, Numbered, Takes, Then, Tree, Valued, below, in_range, negative, number_behind, number_of, place_of, same_bytes, same_token, step, take, value_of, where_ended}
 use Rattle.tp_report.proofs.reading.Words.{is_clean, is_ending, is_word_byte}

@@ -8,7 +8,7 @@ use Rattle.std.specs.Str.Parse.{digits_value}
 use Rattle.std.proofs.lemmas.Bool.{and_from}
 use Rattle.std.proofs.lemmas.Bool.Decides.{nat_tests}
 use Rattle.tp_types.specs.Spelling.{is_digit}
-use Rattle.tp_report.specs.Printable.{is_i128}
+use Rattle.tp_model.specs.Printable.{is_i128}
 use Rattle.tp_report.specs.Tokens.{Token}
 use Rattle.tp_report.proofs.reading.Words.{is_clean}
 

@@ -16,6 +16,7 @@ use Rattle.tp_machine.specs.Machine.{with_age}
 use Rattle.tp_model.specs.Deeds.{deed_of}
 use Rattle.tp_types.specs.Each.{Each, EachPlaced}
 use Rattle.tp_coord.specs.Row as coord
+use Rattle.tp_round.specs.Judge.{awaited_in}
 use Rattle.tp_round.specs.declared.round.Round.{Round}
 use Rattle.tp_coord.specs.State.{Coordinator}
 use Rattle.tp_coord.specs.declared.coordinator.Span.TheVariants as span
@@ -148,7 +149,7 @@ round_letter_aged A place c (span.Validate number) turn round staple at = tt
 round_letter_aged A place c span.Commit turn round staple at = tt
 
 round_letters_aged : (A : TxnId → ℕ → Type 0) (place : ℕ) (c : Coordinator) (over : Span) (turn : ℕ) (round : Round) (staple : Staple) → Each (LetterAged A place) (coord.round_letters c over turn round staple)
-round_letters_aged A place c over turn round staple = all_ageless A place (coord.round_letter c over turn round staple) (round_letter_aged A place c over turn round staple) (coord.awaited_in round)
+round_letters_aged A place c over turn round staple = all_ageless A place (coord.round_letter c over turn round staple) (round_letter_aged A place c over turn round staple) (awaited_in round)
 
 vote_letters_aged : (A : TxnId → ℕ → Type 0) (place : ℕ) (c : Coordinator) (turn : ℕ) (servers : List ServerId) → Each (LetterAged A place) (coord.vote_letters c turn servers)
 vote_letters_aged A place c turn servers = all_ageless A place (coord.vote_letter c turn) (λ at. tt) servers

@@ -7,7 +7,7 @@ use Rattle.tp_model.specs.Words.outcome
 use Rattle.tp_model.specs.Words.step
 use Rattle.tp_model.specs.Words.what
 use Rattle.tp_model.specs.Words.{Cut, Decision, Mail, Record, Scenario, ServerId, TxnId}
-use Rattle.tp_recover.specs.Held.{by_txn}
+use Rattle.tp_model.specs.ByAge.{by_txn}
 use Rattle.tp_recover.specs.Kept.{kept}
 use Rattle.tp_recover.specs.Log.{decided_in}
 use Rattle.tp_coord.specs.Booted as coord_boot

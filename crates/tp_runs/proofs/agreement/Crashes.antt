@@ -13,7 +13,7 @@ use Rattle.tp_model.specs.Words.what
 use Rattle.tp_model.specs.Words.{Actor, AdminId, Decision, Mail, Prepared, Record, Scenario, ServerId, TxnId, Version, Outcome}
 use Rattle.tp_recover.proofs.HeldLemmas.{placed_is}
 use Rattle.tp_recover.proofs.KeptLemmas.{kept_law}
-use Rattle.tp_recover.specs.Held.{by_txn}
+use Rattle.tp_model.specs.ByAge.{by_txn}
 use Rattle.tp_recover.specs.Kept.{kept, version_at}
 use Rattle.tp_recover.specs.Laws.{IsOfScenario}
 use Rattle.tp_recover.specs.Log.{decided_in, known_in, prepared_in, settled_in}

@@ -7,8 +7,9 @@ use Rattle.tp_types.proofs.ListLemmas.{number_itself}
 use Rattle.tp_model.specs.Ids.{same_admin}
 use Rattle.tp_model.specs.Words.{AdminId, Level, Reading, Verdict, Version}
 use Rattle.tp_round.proofs.AdminLemmas.{same_ids}
-use Rattle.tp_round.specs.Laws.{is_for, want_number, wanted_of}
-use Rattle.tp_round.specs.Judge.{aim_for, aim_of, is_aimed, is_global_at, is_outdated, is_proved_by, newest_in, want_of, wants_of}
+use Rattle.tp_model.specs.WantedVersions.{is_for, want_number, wanted_of}
+use Rattle.tp_round.specs.Judge.{aim_for, aim_of, is_aimed, is_outdated, is_proved_by, newest_in, want_of, wants_of}
+use Rattle.tp_model.specs.Levels.{is_global_at}
 use Rattle.tp_round.specs.Replies.{admins_of, greatest, is_of, with_admin, with_greater, with_its_admin, with_lesser}
 use Rattle.tp_round.specs.declared.round.Target.{Target}
 use Rattle.tp_round.specs.declared.round.Wanted.{Wanted}

@@ -13,7 +13,7 @@ use Rattle.tp_model.specs.Words.{Action, Deed, Letter, Prepared, Record, Scenari
 use Rattle.tp_recover.proofs.AgeLemmas.{contains_from, each_member, listed_in_table}
 use Rattle.tp_recover.proofs.HeldLemmas.{placed_is, prepared_is, settled_is}
 use Rattle.tp_recover.proofs.KeptLemmas.{kept_law}
-use Rattle.tp_recover.specs.Held.{by_age, by_txn}
+use Rattle.tp_model.specs.ByAge.{by_age, by_txn}
 use Rattle.tp_recover.specs.Kept.{kept, of_txn}
 use Rattle.tp_recover.specs.declared.kept.Kept.{Kept}
 use Rattle.tp_recover.specs.Laws.{IsOfScenario}

@@ -6,14 +6,13 @@ use Rattle.std.proofs.lemmas.Bool.{and_parts, or_from, or_left, or_right}
 use Rattle.tp_model.specs.Authorisation.{is_item_at, is_own_query, is_query_at}
 use Rattle.tp_model.specs.Causes.{is_item_of, is_own_admin, is_query_of}
 use Rattle.tp_model.specs.Ids.{same_admin, same_server}
-use Rattle.tp_model.specs.Levels.{is_global, is_global_item, is_global_query, level_of, reads_master}
+use Rattle.tp_model.specs.Levels.{is_global, is_global_at, is_global_item, is_global_query, level_of, reads_master}
 use Rattle.tp_model.specs.Limits.{admins_limit}
 use Rattle.tp_model.specs.Queries.{item_of}
 use Rattle.tp_model.specs.Words.level
 use Rattle.tp_model.specs.Words.{AdminId, Item, Level, Query, Scenario, ServerId, Transaction}
 use Rattle.tp_round.proofs.AdminLemmas.{same_ids}
 use Rattle.tp_round.proofs.LevelLemmas.{view_for_each}
-use Rattle.tp_round.specs.Judge.{is_global_at}
 use Rattle.tp_machine.specs.Named.{IsAdmin}
 use Rattle.tp_runs.proofs.basics.Phases.{last_spanned, spanned, spanned_get}
 use Rattle.tp_coord.specs.declared.coordinator.Span.{Span}

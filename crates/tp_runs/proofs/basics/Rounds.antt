@@ -7,8 +7,7 @@ use Rattle.tp_types.proofs.ListLemmas.{number_itself}
 use Rattle.tp_types.specs.Each.{Each}
 use Rattle.tp_model.specs.Ids.{same_server}
 use Rattle.tp_model.specs.Words.{AdminId, Reading, ServerId, Verdict, Version}
-use Rattle.tp_coord.specs.Row.{server_of_target}
-use Rattle.tp_round.specs.Judge.{after, after_judgement, aim_in, awaits, is_awaited, is_missing, is_outdated, judge, met_in, mets_in, new_target, next_round, next_target, with_reply}
+use Rattle.tp_round.specs.Judge.{after, after_judgement, aim_in, awaits, is_awaited, is_missing, is_outdated, judge, met_in, mets_in, new_target, next_round, next_target, server_of_target, with_reply}
 use Rattle.tp_round.specs.Replies.{by_query, is_at_query}
 use Rattle.tp_round.specs.declared.round.Judged.TheVariants as judged
 use Rattle.tp_round.specs.declared.round.Round.{Round}

@@ -9,7 +9,7 @@ use Rattle.tp_model.specs.Authorisation.{action_of}
 use Rattle.tp_model.specs.Ids.{same_cred}
 use Rattle.tp_model.specs.Queries.{item_of, query_at}
 use Rattle.tp_model.specs.Words.{Action, CredId, Item, Policy, Query, Scenario, Staple, Transaction}
-use Rattle.tp_check.specs.OfHistory.{holder_of}
+use Rattle.tp_cred.specs.Holder.{holder_of}
 use Rattle.tp_eval.proofs.CertificateLemmas.{distinct_where}
 use Rattle.tp_eval.specs.Uses.{uses_in}
 use Rattle.tp_eval.specs.declared.policies.Certificate.{Certificate}

@@ -2,7 +2,7 @@
 use Rattle.std.proofs.Common.{List, None, Option, Some, [], ap, arith, find, option_map, refl, slice_get, slice_set, subst, suc, sym, unwrap_or, zero, ℕ, ◌∷◌, ◌≡◌, ◌≤◌}
 use Rattle.std.proofs.lemmas.Bool.{eqb-true}
 use Rattle.tp_model.specs.Words.{AdminId, Version}
-use Rattle.tp_round.specs.Laws.{is_for, want_number}
+use Rattle.tp_model.specs.WantedVersions.{is_for, want_number}
 use Rattle.tp_store.specs.Contents.{Contents}
 use Rattle.tp_store.specs.Rule.{greater, newest_in, with_version}
 use Rattle.tp_runs.proofs.basics.Ids.{admin_number}

@@ -14,6 +14,7 @@ use Rattle.tp_model.specs.Words.log
 use Rattle.tp_model.specs.Words.outcome
 use Rattle.tp_coord.proofs.Rows.{AfterQuery, AfterVotes, AllTrue, AllVoted, ByDenial, ByLoss, ByLostVerdicts, ByNewer, ByNewest, ByOlder, ByProof, ByReading, ByRefusal, ByReplies, ByRestart, ByRounds, Gained, IsEnded, IsJudged, IsPassed, IsProbing, IsRanAnswer, ProofsRead, QueryRan, coordinator_by, gains_deed, submit_by, timer_by, with_gained}
 use Rattle.tp_coord.specs.Row as coord
+use Rattle.tp_round.specs.Judge.{awaited_in}
 use Rattle.tp_coord.specs.Row.{is_begun, move_at, move_of, next_at, next_number, number_at, point_of}
 use Rattle.tp_coord.specs.State.{Coordinator}
 use Rattle.tp_coord.specs.Sums.{asked_value}
@@ -184,7 +185,7 @@ coordinator_row_bounds sc c mail valid homes h said =
       commit_rounds = λ at now rounds passed moves. record { state = record { deeds = deeds_bounded at now rounds passed; low = tt }; forces = tt; letters = (tt, tt) };
       asks_votes = λ at now rounds passed moves. record { state = record { deeds = deeds_bounded at now rounds passed; low = tt }; forces = tt; letters = votes_say_none (with_gained c now) (coord.next_turn c) c.servers };
       told = λ tell over round k.
-          record { state = record { deeds = h.deeds; low = subst (λ (p : Phase). PhaseLow p c.deeds) k.asking h.low }; forces = tt; letters = rounds_say_none c over (coord.next_turn c) round (coord.staple_of tell mail.sent) (coord.awaited_in round) };
+          record { state = record { deeds = h.deeds; low = subst (λ (p : Phase). PhaseLow p c.deeds) k.asking h.low }; forces = tt; letters = rounds_say_none c over (coord.next_turn c) round (coord.staple_of tell mail.sent) (awaited_in round) };
       counted = λ over round staple server verdicts y. record { state = record { deeds = h.deeds; low = subst (λ (p : Phase). PhaseLow p c.deeds) (reply_checking c mail over round staple server verdicts y) h.low }; forces = tt; letters = tt };
       probed = λ over round staple server verdicts y replied reads.
           record { state = record { deeds = h.deeds; low = subst (λ (p : Phase). PhaseLow p c.deeds) (reply_checking c mail over round staple server verdicts y) h.low }; forces = tt; letters = (tt, tt) };
@@ -270,7 +271,7 @@ repeats_bounded sc c valid homes h =
       queried = λ number staple server querying home. (value_bounded sc c number valid homes h.deeds (subst (λ (p : Phase). PhaseLow p c.deeds) querying h.low), tt);
       asked = λ over round asking. (tt, tt);
       probed = λ at probing. (tt, tt);
-      prepared = λ over round staple checking. rounds_say_none c over c.turn round staple (coord.awaited_in round);
+      prepared = λ over round staple checking. rounds_say_none c over c.turn round staple (awaited_in round);
       voted = λ awaited votes. votes_say_none c c.turn awaited;
       read = λ over round reading. (tt, tt);
       ordered = λ ended awaited ending. orders_say_none c ended awaited;

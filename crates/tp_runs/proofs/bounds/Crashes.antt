@@ -9,7 +9,7 @@ use Rattle.tp_model.specs.Words.what
 use Rattle.tp_model.specs.Words.{Decision, Mail, Record, Scenario, ServerId, TxnId}
 use Rattle.tp_recover.proofs.HeldLemmas.{placed_is, prepared_is, settled_is}
 use Rattle.tp_recover.proofs.KeptLemmas.{kept_law}
-use Rattle.tp_recover.specs.Held.{by_txn}
+use Rattle.tp_model.specs.ByAge.{by_txn}
 use Rattle.tp_recover.specs.Kept.{kept}
 use Rattle.tp_recover.specs.Laws.{IsOfScenario}
 use Rattle.tp_recover.specs.Log.{decided_in, values_in}

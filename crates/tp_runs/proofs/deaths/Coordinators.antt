@@ -10,7 +10,8 @@ use Rattle.tp_model.specs.Words.outcome
 use Rattle.tp_model.specs.Words.what
 use Rattle.tp_model.specs.Words.decision
 use Rattle.tp_model.specs.Words.{Actor, Answer, Cause, DoneReply, Fact, Letter, Mail, Outcome, Reading, Record, Scenario, ServerId, Staple, TxnId}
-use Rattle.tp_coord.specs.Row.{awaited_in, coordinator_row, next_turn, older_than, reading_of, repeats, requests, round_letter, round_letters, staple_of, submit_row, vote_letter}
+use Rattle.tp_coord.specs.Row.{coordinator_row, next_turn, older_than, reading_of, repeats, requests, round_letter, round_letters, staple_of, submit_row, vote_letter}
+use Rattle.tp_round.specs.Judge.{awaited_in}
 use Rattle.tp_coord.specs.State.{Coordinator}
 use Rattle.tp_coord.specs.declared.coordinator.Span.TheVariants as span
 use Rattle.tp_coord.specs.declared.coordinator.Span.{Span}

@@ -10,7 +10,7 @@ use Rattle.tp_model.specs.Words.what
 use Rattle.tp_model.specs.Words.{Decision, Deed, Fact, ItemId, Mail, Prepared, Record, Scenario, ServerId, TxnId}
 use Rattle.tp_recover.proofs.HeldLemmas.{placed_is, prepared_is}
 use Rattle.tp_recover.proofs.KeptLemmas.{kept_law}
-use Rattle.tp_recover.specs.Held.{by_age, by_txn}
+use Rattle.tp_model.specs.ByAge.{by_age, by_txn}
 use Rattle.tp_recover.specs.Kept.{kept}
 use Rattle.tp_recover.specs.Log.{decided_in}
 use Rattle.tp_coord.specs.Booted as coord_boot

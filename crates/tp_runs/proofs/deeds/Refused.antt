@@ -18,7 +18,8 @@ use Rattle.tp_runs.proofs.deeds.Commits.{IsItemAt}
 use Rattle.tp_runs.proofs.deeds.Joined.{at_home, is_at, share_at}
 use Rattle.tp_runs.proofs.deeds.Runs.{IsRun, RunsFrom, RunsSoFar}
 use Rattle.tp_coord.specs.Sums.{registers_with}
-use Rattle.tp_runs.proofs.deeds.Tentative.{kept_by_action, kept_one, last_kept, write_of}
+use Rattle.tp_runs.proofs.deeds.Tentative.{kept_by_action, kept_one, last_kept}
+use Rattle.tp_server.specs.Booted.{write_of}
 use Rattle.tp_store.specs.declared.writes.TentativeWrite.{TentativeWrite}
 
 -- ---- no later write

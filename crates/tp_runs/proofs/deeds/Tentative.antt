@@ -22,15 +22,13 @@ use Rattle.tp_store.proofs.LawLemmas.{last_is_found, other_is_found}
 use Rattle.tp_store.proofs.OutsideLemmas.{first_is_least}
 use Rattle.tp_store.specs.Contents.{Contents}
 use Rattle.tp_store.specs.Laws.{IsLeastOutside, are_apart, is_last_of}
+use Rattle.tp_server.specs.Booted.{write_of}
 use Rattle.tp_store.specs.Rule.{bounds_of, first_outside_in, read_in, value_of, writes_of}
 use Rattle.tp_store.specs.Writes.{is_on, is_outside, is_outside_of, values_after, with_write}
 use Rattle.tp_store.specs.declared.writes.Bounds.{Bounds}
 use Rattle.tp_store.specs.declared.writes.TentativeWrite.{TentativeWrite}
 
 -- ---- the last write by deeds
-
-abbrev pub write_of : Deed → TentativeWrite
-write_of deed = record { query = deed.query; item = deed.item; value = deed.value }
 
 abbrev pub kept_by_action : Action → ItemId → Deed → Option TentativeWrite
 kept_by_action action.Read item deed = None

@@ -25,7 +25,8 @@ use Rattle.tp_runs.proofs.epochs.Asked.{Asking, IsKeptNaming, NamesKept, NamesOw
 use Rattle.tp_runs.proofs.epochs.Server.{BodyTold, DoneMade, IsPlainLetter, LetterFirst, LetterTold, LettersEpochs, has_restarted, plain_letters, plain_names_none, plain_names_own}
 use Rattle.tp_coord.proofs.Rows.{IsRanAnswer}
 use Rattle.tp_types.specs.Each.{Each, EachPlaced}
-use Rattle.tp_runs.specs.Sound.{IsActor, query_in}
+use Rattle.tp_runs.specs.Sound.{query_in}
+use Rattle.tp_machine.specs.Named.{IsActor}
 use Rattle.tp_coord.specs.Opened.{servers_at}
 use Rattle.tp_coord.specs.Row as coord
 use Rattle.tp_coord.specs.State.{Coordinator}

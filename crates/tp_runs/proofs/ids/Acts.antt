@@ -22,9 +22,9 @@ use Rattle.tp_runs.proofs.ids.Valid.{IsValid}
 use Rattle.tp_server.proofs.Rows.{AreRightWaits}
 use Rattle.tp_machine.specs.Machine.{PartMove, acts, acts_by, coordinator_fact, log_with, opened_part, server_fact, with_age}
 use Rattle.tp_machine.specs.Parts.{Part}
-use Rattle.tp_runs.specs.Sound.{AreCreds, AreVersions, IsActor, IsSettledOf, IsSoundAuthority, IsSoundBody, IsSoundCoordinatorPart, IsSoundCoordinatorRecord, IsSoundCoordinatorUp, IsSoundDecision, IsSoundEntry, IsSoundLetter, IsSoundMaster, IsSoundRefusal, IsSoundServerPart, IsSoundServerRecord, IsSoundServerUp, IsSoundWhat, IsVersion, IsVersionOf, IsWriteOf}
+use Rattle.tp_runs.specs.Sound.{AreCreds, AreVersions, IsSettledOf, IsSoundAuthority, IsSoundBody, IsSoundCoordinatorPart, IsSoundCoordinatorRecord, IsSoundCoordinatorUp, IsSoundDecision, IsSoundEntry, IsSoundLetter, IsSoundMaster, IsSoundRefusal, IsSoundServerPart, IsSoundServerRecord, IsSoundServerUp, IsSoundWhat, IsVersion, IsVersionOf, IsWriteOf}
 use Rattle.tp_types.specs.Each.{Each}
-use Rattle.tp_machine.specs.Named.{IsAdmin, IsCred, IsServer, IsTxn}
+use Rattle.tp_machine.specs.Named.{IsActor, IsAdmin, IsCred, IsServer, IsTxn}
 use Rattle.tp_coord.specs.Opened as coord
 use Rattle.tp_coord.specs.Row.{coordinator_row, repeats, submit_row}
 use Rattle.tp_coord.specs.State.{Coordinator}

@@ -10,7 +10,7 @@ use Rattle.tp_types.specs.Each.{Each}
 use Rattle.tp_types.specs.Effect.{Effect, ignores, sends}
 use Rattle.tp_model.specs.Deeds.{deed_of}
 use Rattle.tp_model.specs.Ids.{same_server}
-use Rattle.tp_model.specs.Levels.{is_global}
+use Rattle.tp_model.specs.Levels.{is_global, is_global_at}
 use Rattle.tp_model.specs.Limits.{admins_limit, count_limit}
 use Rattle.tp_model.specs.Queries.{item_of, query_at}
 use Rattle.tp_model.specs.Words.{Actor, AdminId, Answer, Body, Cause, DoneReply, Instance, Item, Mail, Met, Newer, NewestReply, Outcome, Query, Reading, Scenario, Scheme, ServerId, Staple, TellReply, Transaction, TxnId, Verdict, Version, VoteReply}
@@ -31,12 +31,12 @@ use Rattle.tp_coord.specs.declared.coordinator.Phase.{Phase}
 use Rattle.tp_coord.specs.declared.coordinator.Phase.TheVariants as phase
 use Rattle.tp_coord.specs.declared.coordinator.Span.{Span}
 use Rattle.tp_coord.specs.declared.coordinator.Span.TheVariants as span
-use Rattle.tp_machine.specs.Named.{IsAdmin, IsServer}
+use Rattle.tp_machine.specs.Named.{IsActor, IsAdmin, IsServer}
 use Rattle.tp_round.proofs.AdminLemmas.{same_ids}
 use Rattle.tp_round.proofs.AgainLemmas.{updated}
 use Rattle.tp_round.proofs.AgreedLemmas.{all_agree, false_is_least}
 use Rattle.tp_round.proofs.MetLemmas.{spent_has_all_mets}
-use Rattle.tp_round.specs.Judge.{after_judgement, after_reply, aim_in, awaits, is_below, is_global_at, is_outdated, is_proved_by, judge, met_at, met_in, new_target, newest_in, next_target, version_number, want_of, wants_of, with_reply}
+use Rattle.tp_round.specs.Judge.{after_judgement, after_reply, aim_in, awaits, is_below, is_outdated, is_proved_by, judge, met_at, met_in, new_target, newest_in, next_target, version_number, want_of, wants_of, with_reply}
 use Rattle.tp_round.specs.Laws.{is_true}
 use Rattle.tp_round.specs.Replies.{by_query, least, proofs_in, verdicts_in}
 use Rattle.tp_round.specs.declared.round.Judged.TheVariants as judged
@@ -58,7 +58,7 @@ use Rattle.tp_runs.proofs.basics.Rounds.{each_by_query, each_missing, missing_in
 use Rattle.tp_runs.proofs.basics.Servers.{servers_upto_each}
 use Rattle.tp_runs.proofs.ids.Server.{version_of}
 use Rattle.tp_runs.proofs.ids.Valid.{IsValid, IsValidItem}
-use Rattle.tp_runs.specs.Sound.{AreSoundVerdicts, AreVersions, AreWanted, IsActor, IsItemOf, IsQuery, IsRefusalOf, IsSoundAnswer, IsSoundBallot, IsSoundBody, IsSoundCause, IsSoundCoordinator, IsSoundCoordinatorRecord, IsSoundDeed, IsSoundInstance, IsSoundLetter, IsSoundMet, IsSoundNewer, IsSoundPhase, IsSoundProof, IsSoundQuery, IsSoundRefusal, IsSoundRound, IsSoundSpan, IsSoundStaple, IsSoundTarget, IsSoundVerdict, IsSoundWanted, IsVersion, IsVersionOf, ProvesEach, query_in}
+use Rattle.tp_runs.specs.Sound.{AreSoundVerdicts, AreVersions, AreWanted, IsItemOf, IsQuery, IsRefusalOf, IsSoundAnswer, IsSoundBallot, IsSoundBody, IsSoundCause, IsSoundCoordinator, IsSoundCoordinatorRecord, IsSoundDeed, IsSoundInstance, IsSoundLetter, IsSoundMet, IsSoundNewer, IsSoundPhase, IsSoundProof, IsSoundQuery, IsSoundRefusal, IsSoundRound, IsSoundSpan, IsSoundStaple, IsSoundTarget, IsSoundVerdict, IsSoundWanted, IsVersion, IsVersionOf, ProvesEach, query_in}
 
 -- what a coordinator's act leaves is sound: its state, still of the same transaction, what it forces and what it sends
 pub record IsSoundCoordinatorEffect (sc : Scenario) (c : Coordinator) (effect : Effect Coordinator) : Type 0 where

@@ -10,7 +10,7 @@ use Rattle.tp_model.specs.Words.what
 use Rattle.tp_model.specs.Words.{Decision, Deed, Mail, Outcome, Prepared, Record, Scenario, ServerId, Settled, TxnId}
 use Rattle.tp_recover.proofs.HeldLemmas.{placed_is, prepared_is, settled_is}
 use Rattle.tp_recover.proofs.KeptLemmas.{kept_law}
-use Rattle.tp_recover.specs.Held.{by_age, by_txn}
+use Rattle.tp_model.specs.ByAge.{by_age, by_txn}
 use Rattle.tp_recover.specs.Kept.{kept, kept_end, kept_first, kept_step, kept_told, kept_vote, of_txn}
 use Rattle.tp_recover.specs.Laws.{IsOfScenario}
 use Rattle.tp_recover.specs.Log.{decided_in}

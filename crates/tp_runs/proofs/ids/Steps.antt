@@ -12,9 +12,9 @@ use Rattle.tp_runs.proofs.ids.Valid.{IsValid, valid_of}
 use Rattle.tp_runs.proofs.walks.Steps.{Cases, KeepsUp, SaysIdle, WaitRightly, WasSent, machine_after_by}
 use Rattle.tp_machine.specs.Machine.{Machine, Move, State, facts_of, idle_move, machine_after, mails_of, opened_part, opening_state, refusal, state_after}
 use Rattle.tp_machine.specs.Parts.{Part}
-use Rattle.tp_runs.specs.Sound.{AreSoundActors, IsActor, IsSound, IsSoundAuthority, IsSoundBody, IsSoundCoordinatorPart, IsSoundFact, IsSoundLetter, IsSoundMail, IsSoundMaster, IsSoundServerPart, IsSoundWhat}
+use Rattle.tp_runs.specs.Sound.{AreSoundActors, IsSound, IsSoundAuthority, IsSoundBody, IsSoundCoordinatorPart, IsSoundFact, IsSoundLetter, IsSoundMail, IsSoundMaster, IsSoundServerPart, IsSoundWhat}
 use Rattle.tp_types.specs.Each.{Each}
-use Rattle.tp_machine.specs.Named.{IsStepOf}
+use Rattle.tp_machine.specs.Named.{IsActor, IsStepOf}
 use Rattle.tp_coord.specs.Opened as coord
 use Rattle.tp_coord.specs.Opened.{idle}
 use Rattle.tp_coord.specs.State.{Coordinator}

@@ -9,7 +9,7 @@ use Rattle.tp_model.specs.Words.what
 use Rattle.tp_model.specs.Words.{Decision, Prepared, Record, Scenario, ServerId, Settled, Transaction, TxnId}
 use Rattle.tp_recover.proofs.KeptLemmas.{kept_law}
 use Rattle.tp_recover.proofs.LogLemmas.{boots_push}
-use Rattle.tp_recover.specs.Held.{by_txn}
+use Rattle.tp_model.specs.ByAge.{by_txn}
 use Rattle.tp_recover.specs.Kept.{kept}
 use Rattle.tp_recover.specs.Laws.{IsOfScenario}
 use Rattle.tp_recover.specs.Log.{decided_in, epoch_in, prepared_in, settled_in}

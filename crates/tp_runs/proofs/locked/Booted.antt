@@ -15,7 +15,7 @@ use Rattle.tp_lock.specs.declared.entry.LockEntry.{LockEntry}
 use Rattle.tp_recover.proofs.AgeLemmas.{has_from, listed_from_table, of_member}
 use Rattle.tp_recover.proofs.HeldLemmas.{placed_is, prepared_is}
 use Rattle.tp_recover.proofs.KeptLemmas.{kept_law}
-use Rattle.tp_recover.specs.Held.{by_age, by_txn}
+use Rattle.tp_model.specs.ByAge.{by_age, by_txn}
 use Rattle.tp_recover.specs.Kept.{kept}
 use Rattle.tp_recover.specs.Log.{prepared_in}
 use Rattle.tp_runs.proofs.basics.Booted.{aged_each, booted_entries, records_of_scenario}

@@ -16,7 +16,7 @@ use Rattle.tp_coord.specs.declared.coordinator.Phase.{Phase}
 use Rattle.tp_coord.specs.declared.coordinator.Phase.TheVariants as phase
 use Rattle.tp_coord.specs.declared.coordinator.Span.{Span}
 use Rattle.tp_machine.specs.Machine.{with_age}
-use Rattle.tp_round.specs.Judge.{after_judgement, after_reply, aim_in, awaits, is_missing, judge, new_target, next_target, with_reply}
+use Rattle.tp_round.specs.Judge.{after_judgement, after_reply, aim_in, awaits, is_missing, judge, new_target, next_target, server_of_target, with_reply}
 use Rattle.tp_round.specs.declared.round.Judged.TheVariants as judged
 use Rattle.tp_round.specs.declared.round.Round.{Round}
 use Rattle.tp_round.specs.declared.round.Target.{Target}
@@ -203,7 +203,7 @@ none_spoken point.VoteRead = refl
 
 -- the awaited servers of a round are some of its servers
 missing_few : (targets : List Target) → length (missing_in targets) ≤ length targets
-missing_few targets = omega (arith, length-map (filter is_missing targets) coord.server_of_target, fewer_left is_missing targets)
+missing_few targets = omega (arith, length-map (filter is_missing targets) server_of_target, fewer_left is_missing targets)
 
 -- the requests of a round go to those that it awaits
 round_letters_few : (c : Coordinator) (over : Span) (turn : ℕ) (round : Round) (staple : Staple) → length (coord.round_letters c over turn round staple) ≤ length round.targets

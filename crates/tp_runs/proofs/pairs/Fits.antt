@@ -5,7 +5,7 @@ use Rattle.tp_coord.specs.Sums.{asked_value}
 use Rattle.std.proofs.Common.{◌≡◌, ◌⊎◌, ℕ, ◌+◌, ◌<◌, ◌≤◌, List, [], ◌∷◌, ◌++◌, length, take, true, false, Option, Some, None, is_some, IfSome, Contains, option_map, ℤ}
 use Rattle.tp_model.specs.Authorisation.{is_own_query}
 use Rattle.tp_model.specs.Limits.{is_empty}
-use Rattle.tp_round.specs.Laws.{wanted_of}
+use Rattle.tp_model.specs.WantedVersions.{wanted_of}
 use Rattle.tp_runs.proofs.basics.Ids.{server_number}
 use Rattle.tp_model.specs.Words.{AdminId, Answer, Deed, DoneReply, PrepareRequest, Prepared, QueryRequest, ValidateRequest, Verdict, VerdictsReply, Version, Vote}
 use Rattle.tp_model.specs.Words.answer

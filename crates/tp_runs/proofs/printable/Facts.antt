@@ -19,7 +19,7 @@ use Rattle.tp_model.specs.Words.decision
 use Rattle.tp_model.specs.Words.what
 use Rattle.tp_model.specs.Words.{Action, Actor, Admin, AdminId, Cause, CommitRecord, CredId, Decision, Deed, Fact, Instance, Item, ItemId, Met, Policy, Query, Rule, Scenario, ServerId, Transaction, TxnId, Verdict, Version, What}
 use Rattle.tp_machine.specs.Named.{IsCrasher, IsCred}
-use Rattle.tp_report.specs.Printable.{are_printable_mets, is_i128, is_printable_cause, is_printable_commit, is_printable_crash, is_printable_decision, is_printable_deed, is_printable_instance, is_printable_met, is_printable_proof, is_printable_what, is_u32, is_u64}
+use Rattle.tp_model.specs.Printable.{are_printable_mets, is_i128, is_printable_cause, is_printable_commit, is_printable_crash, is_printable_decision, is_printable_deed, is_printable_instance, is_printable_met, is_printable_proof, is_printable_what, is_u32, is_u64}
 use Rattle.tp_runs.proofs.basics.Facts.{all_from_each}
 use Rattle.tp_runs.proofs.basics.Homes.{HaveHomes, on_item}
 use Rattle.tp_runs.proofs.bounds.Numbers.{number_low}

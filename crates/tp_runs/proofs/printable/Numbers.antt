@@ -6,7 +6,7 @@ use Rattle.std.proofs.lemmas.Option.{slice_get_within}
 use Rattle.tp_model.proofs.RunBounds.{IsWithin, wider}
 use Rattle.tp_model.specs.Authorisation.{policy_at, rule_in, rule_of}
 use Rattle.tp_model.specs.Words.{AdminId, Policy, Rule, Scenario, Version}
-use Rattle.tp_report.specs.Printable.{is_i128, is_u32, is_u64}
+use Rattle.tp_model.specs.Printable.{is_i128, is_u32, is_u64}
 use Rattle.tp_runs.proofs.bounds.Numbers.{bound_rises, within_from}
 use Rattle.tp_runs.specs.Bounded.{IsBounded, bound_of}
 use Rattle.tp_server.specs.Verdicts.{HasFewRules}

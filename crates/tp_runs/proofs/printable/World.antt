@@ -19,7 +19,7 @@ use Rattle.tp_machine.specs.Named.{IsServer}
 use Rattle.tp_machine.specs.Parts.{Part}
 use Rattle.tp_machine.specs.declared.error.StepError.{StepError}
 use Rattle.tp_recover.specs.Log.{values_in}
-use Rattle.tp_report.specs.Printable.{is_i128, is_printable_ending, is_printable_fact, is_u64}
+use Rattle.tp_model.specs.Printable.{is_i128, is_printable_ending, is_printable_fact, is_u64}
 use Rattle.tp_runs.proofs.agreement.World.{Agrees}
 use Rattle.tp_runs.proofs.basics.Facts.{all_from_each}
 use Rattle.tp_runs.proofs.deeds.Lengths.{overlaid_length}

@@ -38,7 +38,8 @@ use Rattle.tp_runs.proofs.deeds.Lengths.{all_length}
 use Rattle.tp_runs.proofs.deeds.Ranges.{AreTested}
 use Rattle.tp_runs.proofs.deeds.Reads.{AreClear, IsReadFrom, ReadsFrom, reads_clear, reads_more}
 use Rattle.tp_runs.proofs.deeds.Stores.{HasPlace}
-use Rattle.tp_runs.proofs.deeds.Tentative.{AreLast, AreUpTo, inside_tested, none_last, own_read, read_last, write_last, write_of}
+use Rattle.tp_runs.proofs.deeds.Tentative.{AreLast, AreUpTo, inside_tested, none_last, own_read, read_last, write_last}
+use Rattle.tp_server.specs.Booted.{write_of}
 
 -- ---- what is kept
 

@@ -21,7 +21,7 @@ use Rattle.tp_coord.specs.declared.coordinator.Phase.{Phase}
 use Rattle.tp_coord.specs.declared.coordinator.Phase.TheVariants as phase
 use Rattle.tp_coord.specs.declared.coordinator.Span.{Span}
 use Rattle.tp_coord.specs.declared.coordinator.Span.TheVariants as span
-use Rattle.tp_round.specs.Judge.{after_judgement, aim_in, awaits, final_answer, is_missing, is_outdated, is_spent, is_waiting, judge, met_in, mets_in, new_target, update_answer, wants_of}
+use Rattle.tp_round.specs.Judge.{after_judgement, aim_in, awaits, final_answer, is_missing, is_outdated, is_spent, is_waiting, judge, met_in, mets_in, new_target, server_of_target, update_answer, wants_of}
 use Rattle.tp_round.specs.Replies.{by_query, least_false, proofs_in}
 use Rattle.tp_round.specs.declared.round.Judged.{Judged}
 use Rattle.tp_round.specs.declared.round.Judged.TheVariants as judged
@@ -67,7 +67,7 @@ AreApart [] = Unit {0}
 AreApart (at ∷ servers) = Each (λ (other : ServerId). (other.0 == at.0) ≡ false) servers × AreApart servers
 
 abbrev pub ServersApart : Phase → Type 0
-ServersApart (phase.Checking over round staple) = AreApart (map coord.server_of_target round.targets)
+ServersApart (phase.Checking over round staple) = AreApart (map server_of_target round.targets)
 ServersApart _ = Unit {0}
 
 pub record IsSteady (sc : Scenario) (c : Coordinator) : Type 0 where

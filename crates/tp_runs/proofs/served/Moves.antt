@@ -19,7 +19,7 @@ use Rattle.tp_coord.specs.declared.coordinator.Phase.{Phase}
 use Rattle.tp_coord.specs.declared.coordinator.Phase.TheVariants as phase
 use Rattle.tp_coord.specs.declared.coordinator.Span.{Span}
 use Rattle.tp_coord.specs.declared.coordinator.Span.TheVariants as span
-use Rattle.tp_round.specs.Judge.{is_awaited, is_missing}
+use Rattle.tp_round.specs.Judge.{is_awaited, is_missing, server_of_target}
 use Rattle.tp_round.specs.declared.round.Round.{Round}
 use Rattle.tp_round.specs.declared.round.Target.{Target}
 use Rattle.tp_scheme.specs.Moves.{after_queries, after_run, after_votes, proves_each}
@@ -162,7 +162,7 @@ orders_fresh sc c next ended effect state same letters =
 
 -- who is awaited in a round is one of those that are asked
 missing_by : (target : Target) (targets : List Target) (at : ServerId) (s m : Bool) → (target.server.0 == at.0) ≡ s → is_missing target ≡ m → (is_awaited targets at ≡ true → is_in (missing_in targets) at ≡ true)
-    → ((s && m) || is_awaited targets at) ≡ true → is_in (map coord.server_of_target (cond m (target ∷ filter is_missing targets) (filter is_missing targets))) at ≡ true
+    → ((s && m) || is_awaited targets at) ≡ true → is_in (map server_of_target (cond m (target ∷ filter is_missing targets) (filter is_missing targets))) at ≡ true
 missing_by target targets at true true s m later e = or_left (target.server.0 == at.0) (is_in (missing_in targets) at) s
 missing_by target targets at true false s m later e = later e
 missing_by target targets at false true s m later e = or_right (target.server.0 == at.0) (is_in (missing_in targets) at) (later e)

@@ -20,7 +20,7 @@ use Rattle.tp_coord.specs.declared.coordinator.Phase.{Phase}
 use Rattle.tp_coord.specs.declared.coordinator.Phase.TheVariants as phase
 use Rattle.tp_coord.specs.declared.coordinator.Span.{Span}
 use Rattle.tp_coord.specs.declared.coordinator.Span.TheVariants as span
-use Rattle.tp_round.specs.Judge.{after_reply, awaits, is_awaited, is_missing, judge, with_reply}
+use Rattle.tp_round.specs.Judge.{after_reply, awaits, is_awaited, is_missing, judge, server_of_target, with_reply}
 use Rattle.tp_round.specs.declared.round.Round.{Round}
 use Rattle.tp_round.specs.declared.round.Target.{Target}
 use Rattle.tp_scheme.specs.declared.moves.Point.TheVariants as point
@@ -59,17 +59,17 @@ replied_awaited (target ∷ targets) server at verdicts e =
     replied_by target targets (with_reply targets server verdicts) server at verdicts (awaits server target) (λ f. replied_awaited targets server at verdicts f) e
 
 -- a server that is none of these is not awaited
-none_awaited : (targets : List Target) (server : ServerId) → Each (λ (other : ServerId). (other.0 == server.0) ≡ false) (map coord.server_of_target targets) → is_awaited targets server ≡ false
+none_awaited : (targets : List Target) (server : ServerId) → Each (λ (other : ServerId). (other.0 == server.0) ≡ false) (map server_of_target targets) → is_awaited targets server ≡ false
 none_awaited [] server h = refl
 none_awaited (target ∷ targets) server h = ap (λ (b : Bool). (b && is_none target.reply) || is_awaited targets server) h.0 ∙ none_awaited targets server h.1
 
 -- the server that replied is awaited no more
 replied_gone : (target : Target) (targets more : List Target) (server : ServerId) (verdicts : List Verdict) (s m : Bool) → same_server target.server server ≡ s → is_none target.reply ≡ m
-    → Each (λ (other : ServerId). (other.0 == target.server.0) ≡ false) (map coord.server_of_target targets) → (is_awaited targets server ≡ true → is_awaited more server ≡ false)
+    → Each (λ (other : ServerId). (other.0 == target.server.0) ≡ false) (map server_of_target targets) → (is_awaited targets server ≡ true → is_awaited more server ≡ false)
     → ((s && m) || is_awaited targets server) ≡ true → is_awaited (if s && m then record { server = server; reply = Some verdicts } ∷ targets else target ∷ more) server ≡ false
 replied_gone target targets more server verdicts true true s m apart later e =
     let same : target.server ≡ server = same_server_is target.server server s in
-    let none : is_awaited targets server ≡ false = none_awaited targets server (subst (λ (at : ServerId). Each (λ (other : ServerId). (other.0 == at.0) ≡ false) (map coord.server_of_target targets)) same apart) in
+    let none : is_awaited targets server ≡ false = none_awaited targets server (subst (λ (at : ServerId). Each (λ (other : ServerId). (other.0 == at.0) ≡ false) (map server_of_target targets)) same apart) in
     by_self (server.0 == server.0) none
   where
     by_self : (b : Bool) → is_awaited targets server ≡ false → ((b && false) || is_awaited targets server) ≡ false
@@ -79,7 +79,7 @@ replied_gone target targets more server verdicts true false s m apart later e =
     ap (λ (b : Bool). (same_server target.server server && b) || is_awaited more server) m ∙ (ap (λ (b : Bool). (b && false) || is_awaited more server) s ∙ later e)
 replied_gone target targets more server verdicts false m s is apart later e = ap (λ (b : Bool). (b && is_none target.reply) || is_awaited more server) s ∙ later e
 
-replied_apart : (targets : List Target) (server : ServerId) (verdicts : List Verdict) → AreApart (map coord.server_of_target targets) → is_awaited targets server ≡ true → is_awaited (with_reply targets server verdicts) server ≡ false
+replied_apart : (targets : List Target) (server : ServerId) (verdicts : List Verdict) → AreApart (map server_of_target targets) → is_awaited targets server ≡ true → is_awaited (with_reply targets server verdicts) server ≡ false
 replied_apart [] server verdicts apart e = absurd (cc)
 replied_apart (target ∷ targets) server verdicts apart e =
     replied_gone target targets (with_reply targets server verdicts) server verdicts (same_server target.server server) (is_none target.reply) refl refl apart.0 (λ f. replied_apart targets server verdicts apart.1 f) e

@@ -6,7 +6,7 @@ use Rattle.std.proofs.lemmas.Option.{same_Some}
 use Rattle.std.specs.Option.{option_map_or}
 use Rattle.tp_types.proofs.EachLemmas.{each_append, each_found, found_passes, missing}
 use Rattle.tp_types.specs.Each.{Each}
-use Rattle.tp_model.specs.Demand.{agrees_at, are_instances, first_of, is_incremental, is_instance, is_over, many_of, reads_later}
+use Rattle.tp_model.specs.Demand.{agrees_at, are_instances, first_of, is_incremental, is_instance, is_over, many_of, most_rounds, reads_later}
 use Rattle.tp_model.specs.Levels.{is_global, reads_master}
 use Rattle.tp_model.specs.Limits.{admins_limit, view_rounds}
 use Rattle.tp_model.specs.Queries.{query_at}
@@ -19,7 +19,7 @@ use Rattle.tp_model.specs.Words.level
 use Rattle.tp_model.specs.Words.scheme
 use Rattle.tp_coord.proofs.Rows.{Gained, IsAwaitedAnswer, IsRanAnswer, gains_deed, with_gained}
 use Rattle.tp_coord.specs.Opened.{servers_at}
-use Rattle.tp_coord.specs.Row.{asks, asks_in, awaits_query, closed_by, commit_round, gathered_by, home_of, level_at, level_read, limit_of, move_at, move_of, next_number, next_turn, own_query, probes, query_request, round_of, scheme_at, sends_query, servers_upto, validation_round, with_all, with_own}
+use Rattle.tp_coord.specs.Row.{asks, asks_in, awaits_query, closed_by, commit_round, gathered_by, home_of, level_at, level_read, move_at, move_of, next_number, next_turn, own_query, probes, query_request, round_of, scheme_at, sends_query, servers_upto, validation_round, with_all, with_own}
 use Rattle.tp_coord.specs.Row as row
 use Rattle.tp_coord.specs.State.{Coordinator}
 use Rattle.tp_coord.specs.declared.coordinator.Phase.{Phase}
@@ -442,8 +442,8 @@ stapled_trusts sc facts place c number staple home few h e at fits made =
 round_of_fits : (sc : Scenario) (facts : List Fact) (place : ℕ) (c : Coordinator) (over : Span) (declared : Transaction) (servers : List ServerId) → HaveHomes sc → IsValid sc → slice_get sc.txns c.txn.0 ≡ Some declared → servers_over sc c.txn over ≡ servers
     → RoundFits sc facts place c.txn over (round_of sc c servers)
 round_of_fits sc facts place c over declared servers homes valid found own =
-    subst (λ (d : Option Transaction). RoundFits sc facts place c.txn over (first_round servers (option_map_or (limit_of sc) d view_rounds) (replicate admins_limit (option_map_or (level_read sc) d level.View)) (is_global (option_map_or (level_read sc) d level.View)))) (sym found)
-    (subst (λ (these : List ServerId). RoundFits sc facts place c.txn over (first_round these (limit_of sc declared) (replicate admins_limit (level_read sc declared)) (is_global (level_read sc declared)))) own
+    subst (λ (d : Option Transaction). RoundFits sc facts place c.txn over (first_round servers (option_map_or (most_rounds sc) d view_rounds) (replicate admins_limit (option_map_or (level_read sc) d level.View)) (is_global (option_map_or (level_read sc) d level.View)))) (sym found)
+    (subst (λ (these : List ServerId). RoundFits sc facts place c.txn over (first_round these (most_rounds sc declared) (replicate admins_limit (level_read sc declared)) (is_global (level_read sc declared)))) own
     (round_begins sc facts place c.txn over declared homes valid found))
 
 new_kept : (instances : List Instance) (gathered : List Verdict) (servers : List ServerId) → Each (λ (target : Target). AreAbove instances gathered (verdicts_in target)) (map new_target servers)

@@ -14,7 +14,8 @@ use Rattle.tp_round.specs.declared.round.Judged.TheVariants.{Update}
 use Rattle.tp_round.specs.declared.round.Round.{Round}
 use Rattle.tp_round.specs.declared.round.Target.{Target}
 use Rattle.tp_round.specs.declared.round.Wanted.{Wanted}
-use Rattle.tp_round.specs.Judge.{after, after_judgement, aim_in, is_global_at, is_missing, is_outdated, is_proved_by, is_waiting, judge, met_in, mets_in, new_target, newest_in, next_number, next_round, next_target, want_of, wants_of}
+use Rattle.tp_round.specs.Judge.{after, after_judgement, aim_in, is_missing, is_outdated, is_proved_by, is_waiting, judge, met_in, mets_in, new_target, newest_in, next_number, next_round, next_target, want_of, wants_of}
+use Rattle.tp_model.specs.Levels.{is_global_at}
 use Rattle.tp_round.specs.Laws.{target_in}
 use Rattle.tp_round.specs.Replies.{greatest, is_of, proofs_in, verdicts_in, with_greater}
 use Rattle.tp_round.proofs.AdminLemmas as admins

@@ -12,20 +12,21 @@ use Rattle.tp_types.specs.Each.{Each}
 use Rattle.tp_model.specs.Authorisation.{is_item_at, is_own_query, is_query_at}
 use Rattle.tp_model.specs.Causes.{is_own_admin, is_query_of}
 use Rattle.tp_model.specs.Ids.{same_admin, same_server}
-use Rattle.tp_model.specs.Levels.{is_global, is_global_item, is_global_query, level_of, reads_master}
+use Rattle.tp_model.specs.Levels.{is_global, is_global_at, is_global_item, is_global_query, level_of, reads_master}
 use Rattle.tp_model.specs.Limits.{admins_limit, is_from_to, rounds_limit, view_rounds}
 use Rattle.tp_model.specs.Queries.{item_of, query_at}
 use Rattle.tp_model.specs.Valid.{has_valid_creds, is_valid_txn}
 use Rattle.tp_model.specs.Words.{AdminId, Fact, Item, Level, Query, Scenario, ServerId, Transaction, TxnId, Verdict}
 use Rattle.tp_model.specs.Words.level
-use Rattle.tp_coord.specs.Row.{level_read, limit_of}
+use Rattle.tp_coord.specs.Row.{level_read}
+use Rattle.tp_model.specs.Demand.{most_rounds}
 use Rattle.tp_coord.specs.declared.coordinator.Span.{Span}
 use Rattle.tp_machine.specs.Named.{IsAdmin}
 use Rattle.tp_round.proofs.AdminLemmas.{any_admin, same_ids}
 use Rattle.tp_round.proofs.LevelLemmas.{level_for_each}
 use Rattle.tp_round.proofs.NamesLemmas.{admins_in}
 use Rattle.tp_round.proofs.RoundsLemmas.{are_read_for}
-use Rattle.tp_round.specs.Judge.{first_round, is_global_at}
+use Rattle.tp_round.specs.Judge.{first_round}
 use Rattle.tp_round.specs.Laws.{is_read_for}
 use Rattle.tp_round.specs.Replies.{proofs_in, verdicts_in}
 use Rattle.tp_round.specs.declared.round.Round.{Round}
@@ -128,7 +129,7 @@ limit_by rounds true h = h
 limit_by rounds false h = (omega arith, omega arith)
 
 -- a transaction's limit is from one to 16
-limit_between : (sc : Scenario) (declared : Transaction) → is_valid_txn sc declared ≡ true → (1 ≤ limit_of sc declared) × (limit_of sc declared ≤ rounds_limit)
+limit_between : (sc : Scenario) (declared : Transaction) → is_valid_txn sc declared ≡ true → (1 ≤ most_rounds sc declared) × (most_rounds sc declared ≤ rounds_limit)
 limit_between sc declared e =
     limit_by declared.rounds (reads_master sc declared) (rounds_between declared.rounds (three_parts (has_valid_creds sc declared) (is_from_to 1 rounds_limit declared.rounds) _ e).1)
 
@@ -166,7 +167,7 @@ read_level false = refl
 
 -- the first round with the limit of its transaction, at the level that it is run at
 pub round_begins : (sc : Scenario) (facts : List Fact) (place : ℕ) (txn : TxnId) (over : Span) (declared : Transaction) → HaveHomes sc → IsValid sc → slice_get sc.txns txn.0 ≡ Some declared
-    → RoundFits sc facts place txn over (first_round (servers_over sc txn over) (limit_of sc declared) (replicate admins_limit (level_read sc declared)) (is_global (level_read sc declared)))
+    → RoundFits sc facts place txn over (first_round (servers_over sc txn over) (most_rounds sc declared) (replicate admins_limit (level_read sc declared)) (is_global (level_read sc declared)))
 round_begins sc facts place txn over declared homes valid found =
     let between = limit_between sc declared (each_get (λ (t : Transaction). is_valid_txn sc t ≡ true) sc.txns txn.0 declared valid.txns found) in
     let same : (other : Transaction) → slice_get sc.txns txn.0 ≡ Some other → declared ≡ other = λ other there. same_Some declared other (sym found ∙ there) in
@@ -175,7 +176,7 @@ round_begins sc facts place txn over declared homes valid found =
     let fit : LevelsFit sc declared levels = λ admin exists.
     level_for_each (level_read sc declared) admin (let few = valid.few_admins in omega (arith, exists, few)) ∙ (reads ∙ reads_global sc txn.0 declared homes found) in
     record {
-      limit = λ other there. ap (limit_of sc) (same other there);
+      limit = λ other there. ap (most_rounds sc) (same other there);
       levels = λ other there. subst (λ (t : Transaction). LevelsFit sc t levels) (same other there) fit;
       reads = λ other there. reads ∙ ap (reads_master sc) (same other there);
       servers = new_servers (servers_over sc txn over);

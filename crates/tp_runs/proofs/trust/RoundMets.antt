@@ -9,7 +9,7 @@ use Rattle.std.proofs.lemmas.List.Folds.{list_all-append}
 use Rattle.tp_model.specs.Causes.{are_met_on, are_rounds_shown, is_met_after, is_met_shown, is_own_admin}
 use Rattle.tp_model.specs.Demand.{is_incremental}
 use Rattle.tp_model.specs.Facts.{was_submitted}
-use Rattle.tp_model.specs.Levels.{is_global, level_of, reads_master}
+use Rattle.tp_model.specs.Levels.{is_global, is_global_at, level_of, reads_master}
 use Rattle.tp_model.specs.Limits.{count_limit, view_rounds}
 use Rattle.tp_model.specs.Versions.{newest}
 use Rattle.tp_model.specs.Words.{AdminId, Fact, Met, Reading, Scenario, Transaction, TxnId, Verdict, Version}
@@ -20,7 +20,7 @@ use Rattle.tp_round.proofs.RoundsLemmas.{IsCounted, IsLater, are_not_above, are_
 use Rattle.tp_round.proofs.AgainLemmas.{IsUpdated, updated}
 use Rattle.tp_round.proofs.SpentLemmas.{nothing_met, unread_unspent}
 use Rattle.tp_round.proofs.VersionLemmas.{are_at, is_at}
-use Rattle.tp_round.specs.Judge.{aim_in, is_below, is_global_at, is_missing, is_outdated, is_waiting, judge, met_at, met_in, mets_in, newest_in, next_number}
+use Rattle.tp_round.specs.Judge.{aim_in, is_below, is_missing, is_outdated, is_waiting, judge, met_at, met_in, mets_in, newest_in, next_number}
 use Rattle.tp_round.specs.Laws.{HasAllMets, IsLeastMet, is_behind, is_not_above, is_of_global, is_read_for, is_used, target_in}
 use Rattle.tp_round.specs.Replies.{greatest, is_of, proofs_in, verdicts_in}
 use Rattle.tp_round.specs.declared.round.Judged.TheVariants.{Spent, Update}

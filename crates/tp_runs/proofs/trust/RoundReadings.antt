@@ -7,7 +7,7 @@ use Rattle.std.specs.Option.{option_map_or}
 use Rattle.tp_types.proofs.EachLemmas.{each_as, each_flat_map, each_get, each_two}
 use Rattle.tp_types.specs.Each.{Each}
 use Rattle.tp_model.specs.Facts.{was_submitted}
-use Rattle.tp_model.specs.Levels.{is_global, level_of, reads_master}
+use Rattle.tp_model.specs.Levels.{is_global, is_global_at, level_of, reads_master}
 use Rattle.tp_model.specs.Versions.{is_consistent, is_newest_proof, is_publication, meets_reading, meets_readings, newest}
 use Rattle.tp_model.specs.Words.{Admin, AdminId, Fact, Level, NewestReply, Reading, Scenario, Transaction, TxnId, Verdict, Version}
 use Rattle.tp_coord.specs.Row.{place_of, reading_of}
@@ -16,7 +16,7 @@ use Rattle.tp_machine.specs.Named.{IsAdmin}
 use Rattle.tp_offices.specs.Master.{version_for}
 use Rattle.tp_round.proofs.AgreedLemmas.{all_agree, false_is_least}
 use Rattle.tp_round.proofs.VersionLemmas.{all_by_query, is_at}
-use Rattle.tp_round.specs.Judge.{is_global_at, judge, newest_in}
+use Rattle.tp_round.specs.Judge.{judge, newest_in}
 use Rattle.tp_round.specs.Laws.{is_behind, is_not_above, is_of_global, target_in}
 use Rattle.tp_round.specs.Replies.{by_query, greatest, proofs_in, verdicts_in}
 use Rattle.tp_round.specs.declared.round.Judged.TheVariants as judged

@@ -16,7 +16,7 @@ use Rattle.tp_model.specs.Limits.{is_empty, rounds_limit, view_rounds}
 use Rattle.tp_model.specs.Queries.{is_at_server, item_of, query_at, servers_of}
 use Rattle.tp_model.specs.Versions.{is_publication, newest, opening_version}
 use Rattle.tp_model.specs.Words.{AdminId, Fact, Item, Met, Query, Reading, Scenario, ServerId, Transaction, TxnId, Verdict, Version}
-use Rattle.tp_coord.specs.Row.{limit_of, server_of_target, want_for}
+use Rattle.tp_coord.specs.Row.{want_for}
 use Rattle.tp_coord.specs.declared.coordinator.Span.{Span}
 use Rattle.tp_coord.specs.declared.coordinator.Span.TheVariants as span
 use Rattle.tp_machine.specs.Named.{IsAdmin}
@@ -24,7 +24,7 @@ use Rattle.tp_round.proofs.AgreedLemmas.{false_is_least}
 use Rattle.tp_round.proofs.KeptLemmas.{server_of, servers_replied}
 use Rattle.tp_round.proofs.RoundsLemmas.{IsCounted, aimed_has, are_wanted_at, is_wanted_at, reply_keeps}
 use Rattle.tp_round.proofs.VersionLemmas.{are_at, is_at}
-use Rattle.tp_round.specs.Judge.{after_reply, awaits, is_aimed, is_missing, judge, new_target, with_reply}
+use Rattle.tp_round.specs.Judge.{after_reply, awaits, is_aimed, is_missing, judge, new_target, server_of_target, with_reply}
 use Rattle.tp_round.specs.Replies.{proofs_in, verdicts_in}
 use Rattle.tp_round.specs.declared.round.Judged.TheVariants.{False}
 use Rattle.tp_round.specs.declared.round.Round.{Round}
@@ -119,7 +119,7 @@ pub record AreMet (sc : Scenario) (facts : List Fact) (place : ℕ) (txn : TxnId
 -- and whether it reads the master are those of the transaction; it is the first, or comes after an update; and fewer
 -- rounds than the limit met something, none where no master is read
 pub record RoundFits (sc : Scenario) (facts : List Fact) (place : ℕ) (txn : TxnId) (over : Span) (round : Round) : Type 0 where
-  pub limit : (declared : Transaction) → slice_get sc.txns txn.0 ≡ Some declared → round.limit ≡ limit_of sc declared
+  pub limit : (declared : Transaction) → slice_get sc.txns txn.0 ≡ Some declared → round.limit ≡ most_rounds sc declared
   pub levels : (declared : Transaction) → slice_get sc.txns txn.0 ≡ Some declared → LevelsFit sc declared round.levels
   pub reads : (declared : Transaction) → slice_get sc.txns txn.0 ≡ Some declared → round.reads ≡ reads_master sc declared
   pub servers : map server_of round.targets ≡ servers_over sc txn over

@@ -21,7 +21,7 @@ use Rattle.tp_coord.specs.declared.coordinator.Phase.TheVariants as phase
 use Rattle.tp_lock.specs.Rule.{without_grant}
 use Rattle.tp_lock.specs.Table.{Table}
 use Rattle.tp_round.specs.Judge.{is_aimed}
-use Rattle.tp_round.specs.Laws.{wanted_of}
+use Rattle.tp_model.specs.WantedVersions.{wanted_of}
 use Rattle.tp_round.specs.declared.round.Round.{Round}
 use Rattle.tp_server.proofs.Rows.{AreRightWaits, IsAsking, IsEvaluated, Stapled, Unstapled, refusing, resuming, server_by_locks, with_locks}
 use Rattle.tp_server.specs.Row.{ack_letter, after_asking, answers_with, closes, entry_at, followed_by, learns, no_letter, pinned, refused_as, reply_of, server_row, settled_as, shows, shows_on, votes, waits, yes_letter}

@@ -14,7 +14,7 @@ use Rattle.tp_coord.specs.Row.{coordinator_row}
 use Rattle.tp_coord.specs.State.{Coordinator}
 use Rattle.tp_machine.specs.Machine.{State, acts_by, coordinator_fact, coordinator_move, goes_down, server_boots, server_fact, server_move, state_after}
 use Rattle.tp_machine.specs.Parts.{Part}
-use Rattle.tp_recover.specs.Held.{by_txn}
+use Rattle.tp_model.specs.ByAge.{by_txn}
 use Rattle.tp_recover.specs.Kept.{kept}
 use Rattle.tp_recover.specs.Log.{decided_in}
 use Rattle.tp_server.specs.Booted.{boot_row, booted}

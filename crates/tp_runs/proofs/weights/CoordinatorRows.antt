@@ -13,7 +13,7 @@ use Rattle.tp_coord.specs.declared.coordinator.Phase.{Phase}
 use Rattle.tp_coord.specs.declared.coordinator.Span.{Span}
 use Rattle.tp_coord.specs.declared.coordinator.Span.TheVariants as span
 use Rattle.tp_machine.specs.Machine.{with_age}
-use Rattle.tp_round.specs.Judge.{is_missing}
+use Rattle.tp_round.specs.Judge.{is_missing, server_of_target}
 use Rattle.tp_round.specs.declared.round.Round.{Round}
 use Rattle.tp_runs.proofs.basics.Passed.{ended_running, judged_undecided, passed_undecided, reply_checking}
 use Rattle.tp_runs.proofs.basics.Phases.{is_undecided, running_undecided}
@@ -61,7 +61,7 @@ votes_weigh c turn servers = mapped_weigh (coord.vote_letter c turn) 2 servers (
 missing_few : (servers : ℕ) (c : Coordinator) (present : Phase) (round : Round) → AwaitsFew servers c → c.phase ≡ present → spoken_of present ≡ length round.targets → length (missing_in round.targets) ≤ servers
 missing_few servers c present round h e spoken =
     let few : spoken_of present ≤ servers = subst (λ (p : Phase). spoken_of p ≤ servers) e h in
-    omega (arith, few, spoken, length-map (filter is_missing round.targets) coord.server_of_target, fewer_left is_missing round.targets)
+    omega (arith, few, spoken, length-map (filter is_missing round.targets) server_of_target, fewer_left is_missing round.targets)
 
 -- ---- the row
 

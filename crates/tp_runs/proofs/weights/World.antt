@@ -14,7 +14,7 @@ use Rattle.tp_model.specs.Words.step
 use Rattle.tp_model.specs.Words.what
 use Rattle.tp_model.specs.Words.{Body, Decision, Letter, Mail, Outcome, Prepared, Scenario, ServerId, Step, TxnId, What}
 use Rattle.tp_recover.proofs.KeptLemmas.{kept_law}
-use Rattle.tp_recover.specs.Held.{by_txn}
+use Rattle.tp_model.specs.ByAge.{by_txn}
 use Rattle.tp_recover.specs.Kept.{kept}
 use Rattle.tp_recover.specs.Log.{decided_in}
 use Rattle.tp_coord.specs.Booted as coord_boot

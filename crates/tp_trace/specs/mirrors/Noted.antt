@@ -9,12 +9,12 @@ use Rattle.tp_model.specs.Words.{Actor, Record, Scenario, ServerId, Step}
 use Rattle.tp_model.specs.Words.actor
 use Rattle.tp_model.specs.Words.step
 use Rattle.tp_report.specs.ReportText.{server_name}
+use Rattle.tp_report.specs.StepText.{step_text}
 use Rattle.tp_server.specs.State.{Server}
 use Rattle.tp_trace.specs.Blocks.{coordinator_now, fate_lines, log_lines, mail_at, step_kind}
 use Rattle.tp_trace.specs.Lines.{Line, line_of, mail_line}
 use Rattle.tp_trace.specs.Phases.{awaits_text}
 use Rattle.tp_trace.specs.Seen.{items_of, left_lines, nothing_seen, seen_lines, seen_of, seen_up}
-use Rattle.tp_trace.specs.Steps.{step_text}
 use Rattle.tp_trace.specs.Told.{all_told}
 use Rattle.tp_trace.specs.declared.blocks.Noted.{Noted}
 use Rattle.tp_trace.specs.declared.lines.Kind.TheVariants as kind

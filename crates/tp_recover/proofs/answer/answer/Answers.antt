@@ -1,6 +1,6 @@
 use Rattle.std.proofs.Common.{List, ap, sym, ◌∙◌}
 use Rattle.tp_model.specs.Words.{Prepared}
-use Rattle.tp_recover.specs.Held.{by_age}
+use Rattle.tp_model.specs.ByAge.{by_age}
 use Rattle.tp_recover.specs.Held as rule
 use Rattle.tp_recover.proofs.TableLemmas.{by_txn_front}
 use Rattle.tp_recover.proofs.answer.answer.Goals as goal

@@ -1,7 +1,7 @@
 use Rattle.std.proofs.Common.{◌≡◌, ◌∙◌, List, ap, sym}
 use Rattle.std.proofs.lemmas.Result.{IfOk-weaker}
 use Rattle.tp_model.specs.Words.{Prepared}
-use Rattle.tp_recover.specs.Held.{by_age, by_txn}
+use Rattle.tp_model.specs.ByAge.{by_age, by_txn}
 use Rattle.tp_recover.proofs.TableLemmas.{by_txn_front}
 use Rattle.tp_server.proofs.booted.aged.Goals as goal
 

@@ -1,7 +1,7 @@
 use Rattle.std.proofs.Common.{◌≡◌, ◌∙◌, List, ap, sym}
 use Rattle.std.proofs.lemmas.Result.{IfOk-weaker}
 use Rattle.tp_model.specs.Words.{Letter}
-use Rattle.tp_recover.specs.Held.{by_txn}
+use Rattle.tp_model.specs.ByAge.{by_txn}
 use Rattle.tp_recover.proofs.TableLemmas.{by_txn_front}
 use Rattle.tp_server.specs.mirrors.Inquiries as mirror
 use Rattle.tp_server.proofs.booted.inquiries.Goals as goal

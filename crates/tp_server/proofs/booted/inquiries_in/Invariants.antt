@@ -1,5 +1,5 @@
 use Rattle.std.proofs.Common.{◌≡◌, ◌++◌, drop}
-use Rattle.tp_recover.specs.Held.{by_txn}
+use Rattle.tp_model.specs.ByAge.{by_txn}
 use Rattle.tp_server.specs.mirrors.Inquiries.{inquiries}
 use Rattle.tp_server.proofs.booted.inquiries_in.Given as goal
 

@@ -1,6 +1,6 @@
 use Rattle.std.proofs.Common.{◌≡◌, filter, map, take}
-use Rattle.tp_round.specs.Judge.{is_missing}
-use Rattle.tp_coord.specs.Row.{round_letter, server_of_target}
+use Rattle.tp_round.specs.Judge.{is_missing, server_of_target}
+use Rattle.tp_coord.specs.Row.{round_letter}
 use Rattle.tp_coord.proofs.coordinator.Coordinator.round_letters.Given as goal
 
 -- the awaited servers so far have their letters

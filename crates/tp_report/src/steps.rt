@@ -1,13 +1,26 @@
 //! Steps, as a scenario lists them.
 ghost use Rattle.std.specs.Prelude.{◌≡◌, ◌++◌, OnOk, codes};
-ghost use Rattle.tp_trace.specs.Steps as steps;
+ghost use Rattle.tp_report.specs.StepText as steps;
 
-use crate::words::{put_actor, put_after};
-use tp_report::piece::{put, put_admin, put_cred, put_server, put_txn};
+use crate::piece::{put, put_admin, put_after, put_cred, put_server, put_txn};
 use tp_types::{Actor, AdminId, Cut, NoMemory, Scenario, ServerId, Step};
 
-/// Puts a step.
-#[tactic(auto, unfolding(crate::specs::Steps::step_text))]
+/// Puts an actor's name, as a step and a trace have it. The offices are named with a capital, so that no server has their
+/// names.
+pub fn put_actor_word(out: &mut Vec<u8>, scenario: &Scenario, actor: Actor) -> Result<(), NoMemory>
+    ensures { OnOk result (out.new.items ≡ out.old.items ++ steps.actor_word scenario.now actor) }
+{
+    match actor {
+        Actor::Server(at) => put_server(out, scenario, at),
+        Actor::Coordinator(txn) => put_txn(out, scenario, txn),
+        Actor::Master => put(out, b"Master"),
+        Actor::Authority => put(out, b"Authority"),
+    }
+}
+
+/// Puts the text of a step. Of a step that names what the scenario has, and whose numbers are in their ranges, it is read
+/// back as this step.
+#[tactic(auto, unfolding(crate::specs::StepText::step_text))]
 pub fn put_step_text(out: &mut Vec<u8>, scenario: &Scenario, taken: &Step) -> Result<(), NoMemory>
     ensures { OnOk result (out.new.items ≡ out.old.items ++ steps.step_text scenario.now taken.now) }
 {
@@ -31,7 +44,7 @@ pub fn put_step_text(out: &mut Vec<u8>, scenario: &Scenario, taken: &Step) -> Re
         Step::Crash { actor, cut } => put_crash(out, scenario, actor, cut),
         Step::Boot { actor } => {
             put(out, b"boot ")?;
-            put_actor(out, scenario, actor)
+            put_actor_word(out, scenario, actor)
         }
         Step::Timer { txn } => {
             put(out, b"timer ")?;
@@ -65,7 +78,7 @@ fn put_crash(
         (out.new.items ≡ out.old.items ++ steps.crash_text scenario.now actor cut) }
 {
     put(out, b"crash ")?;
-    put_actor(out, scenario, actor)?;
+    put_actor_word(out, scenario, actor)?;
     put_cut(out, cut)
 }
 

@@ -1,9 +1,16 @@
--- A step as a scenario lists it, with single spaces.
+-- The text of a step, as a scenario lists it: its words, with one space between two of them.
 use Rattle.std.specs.Prelude.{ℕ, List, [], ◌++◌, Option, Some, None, codes, decimal}
 use Rattle.tp_model.specs.Words.{Actor, AdminId, Cut, Scenario, ServerId, Step}
+use Rattle.tp_model.specs.Words.actor
 use Rattle.tp_model.specs.Words.step
 use Rattle.tp_report.specs.ReportText.{admin_name, cred_name, server_name, txn_name}
-use Rattle.tp_trace.specs.Words.{actor_word}
+
+-- a coordinator is named as its transaction; the offices with a capital, which no name of a scenario has
+abbrev pub actor_word : Scenario → Actor → List ℕ
+actor_word sc (actor.Server at) = server_name sc at
+actor_word sc (actor.Coordinator txn) = txn_name sc txn
+actor_word sc actor.Master = codes "Master"
+actor_word sc actor.Authority = codes "Authority"
 
 -- `push ADMIN SERVER`
 abbrev pub push_text : Scenario → AdminId → ServerId → List ℕ

@@ -2,8 +2,7 @@
 use Rattle.std.specs.Prelude.{ℕ, ◌^◌, ◌&&◌, ◌==◌, nat_lt, not, List, [], ◌∷◌, length, Bool, true, false, Option, None, Some, ℤ, pos, negsuc}
 use Rattle.std.specs.List.{list_all, list_any}
 use Rattle.std.specs.Option.{option_map_or}
-use Rattle.tp_types.specs.Spelling.{is_name}
-use Rattle.tp_model.specs.Words.{Action, Actor, Admin, Cause, CommitRecord, CredId, Credential, Decision, Deed, Denied, Died, Ending, Fact, Instance, Item, Met, Newer, OutOfRange, Scenario, ServerDecl, Transaction, Verdict, What}
+use Rattle.tp_model.specs.Words.{Action, Actor, Cause, CommitRecord, CredId, Credential, Decision, Deed, Denied, Died, Ending, Fact, Instance, Met, Newer, OutOfRange, Scenario, Verdict, What}
 use Rattle.tp_model.specs.Ids.{same_name}
 use Rattle.tp_model.specs.Valid.{is_admin, is_cred, is_item, is_server, is_txn}
 use Rattle.tp_types.specs.declared.fact.What.TheVariants.{Submitted, Published, Revoked, Ticked, Crashed, Lost, Decided, Settled}
@@ -104,15 +103,6 @@ is_printable sc facts ending =
     list_all (is_printable_fact sc) facts && is_printable_ending sc ending
 
 -- ---- names
-
--- the names of each kind are spelled as names
-abbrev pub is_spelled : Scenario → Bool
-is_spelled sc =
-    list_all (λ (admin : Admin). is_name admin.name) sc.admins
-    && list_all (λ (cred : Credential). is_name cred.name) sc.creds
-    && list_all (λ (server : ServerDecl). is_name server.name) sc.servers
-    && list_all (λ (item : Item). is_name item.name) sc.items
-    && list_all (λ (txn : Transaction). is_name txn.name) sc.txns
 
 -- a credential has the name that stands where a proof uses none
 abbrev pub is_called_none : Credential → Bool

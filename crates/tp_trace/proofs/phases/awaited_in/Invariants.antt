@@ -1,7 +1,6 @@
 use Rattle.std.proofs.Common.{◌≡◌, ◌++◌, drop, map, filter}
-use Rattle.tp_round.specs.Judge.{is_missing}
-use Rattle.tp_trace.specs.Phases.{server_of_target}
-use Rattle.tp_trace.proofs.phases.missing_servers.Given as goal
+use Rattle.tp_round.specs.Judge.{is_missing, server_of_target}
+use Rattle.tp_trace.proofs.phases.awaited_in.Given as goal
 
 -- the servers so far, and those of the targets that are left, are all
 abbrev pub invariant-loop-target : goal.invariant-loop-target
