@@ -1,0 +1,10 @@
+pub mod ListLemmas
+pub mod ViewLemmas
+pub mod EntryLemmas
+pub mod RuleLemmas
+pub mod MoveLemmas
+pub mod SeatLemmas
+pub mod BoardLemmas
+pub mod LockedLemmas
+pub mod ClosingLemmas
+pub mod OpeningLemmas

@@ -1,0 +1,8 @@
+use Rattle.std.proofs.Common.{sym, ◌∙◌, arith}
+use Rattle.tp_wire.proofs.BoardLemmas.{read_at}
+use Rattle.tp_wire.proofs.board.Board.read.Goals as goal
+
+pub load-requires : goal.load-requires
+load-requires g c =
+    let i = c.self.invariant in
+    (c.requires.site ∙ sym i.0, omega (arith, i.1), read_at g.L.Law.follows g.L.Law.actors g.L.Law.passes _ _ i.2 _ _ _ c.requires.book)
