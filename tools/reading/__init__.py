@@ -1,0 +1,1 @@
+"""Which files of specs a reader has to read for a clause of a contract."""
