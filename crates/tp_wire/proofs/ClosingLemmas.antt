@@ -250,6 +250,13 @@ cleared_most v (w ∷ ws) =
     let most = rest.0 in
     (omega (arith, most), (omega (arith, most), rest.1))
 
+told_most : (v : View) (ws : List View) → (v.told ≤ (all_joined v ws).told) × Each (λ (w : View). w.told ≤ (all_joined v ws).told) ws
+told_most v [] = (omega arith, tt)
+told_most v (w ∷ ws) =
+    let rest = told_most (joined v w) ws in
+    let most = rest.0 in
+    (omega (arith, most), (omega (arith, most), rest.1))
+
 -- ---- the closed book
 
 pub closes : (follows : List Entry → Entry → Type 0) (actors passes : ℕ) (d v : View) (ws : List View) (steps : List Step) (facts : List Fact) (mails : List Mail) (next : ℕ) (book : Book)
@@ -267,21 +274,32 @@ closes follows actors passes d v ws steps facts mails next book l is holds s f m
     let count : length book.mails ≡ sent_in whole.log = ap (λ (ms : List Mail). length ms) (m ∙ l.mails_are) ∙ (length-mails d.log ∙ ap sent_in (sym kept.0)) in
     record {
       log = whole.log;
+      takers = whole.takers;
       steps = s ∙ (l.steps_are ∙ ap steps_in (sym kept.0));
       facts = f ∙ (l.facts_are ∙ ap facts_in (sym kept.0));
       mails = m ∙ (l.mails_are ∙ ap mails_in (sym kept.0));
       lawful = h.lawful;
       acted = h.acted;
       seen = each_as (λ (w : View). StartsWith whole.seen w.seen) (λ (w : View). StartsWith whole.log w.seen) (λ w begins. starts_trans whole.log whole.seen w.seen h.begins begins) ws also;
+      told = each_as (λ (w : View). w.told ≤ whole.told) (λ (w : View). w.told ≤ length whole.log) (λ w most. let all = h.told in omega (arith, most, all)) ws (told_most d ws).1;
       parts = in_log;
       in_order = each_as (IsPart whole.log) (λ (p : Part). own p.number p.upto ≡ own p.number whole.log) (λ p q. own_whole whole.log p q) (parts_of ws) in_log;
       apart = apart;
       one_holder = λ has. each_as (HasOneActor actors) (λ (e : Entry). holders actors (parts_of ws) e ≡ 1) (λ e one. one_holder actors (parts_of ws) apart has e one) whole.log h.acted;
+      takers_low = h.low;
+      takers_few = let sent = h.sent in omega (arith, sent, count);
+      took = took;
       taken_once = λ mail. subst (λ (ms : List ℕ). times mail ms ≤ 1) (sym taken) (once 0 mail whole.takers (parts_of ws) apart);
       taken_sent = λ mail some.
           let less = within_takers 0 mail whole.takers (parts_of ws) (subst (λ (ms : List ℕ). 1 ≤ times mail ms) taken some) in
           let sent = h.sent in
           omega (arith, less, sent, count);
+      all_taken = each_as (λ (w : View). w.cleared ≤ whole.cleared) (λ (w : View). sent_in (take w.cleared whole.log) ≤ length whole.takers)
+          (λ w most.
+          let more = sent_begins (take whole.cleared whole.log) (take w.cleared whole.log) (take_more_begins w.cleared whole.cleared whole.log most) in
+          let all = h.cleared in
+          omega (arith, more, all))
+          ws (cleared_most d ws).1;
       cleared = λ has. each_as (λ (w : View). w.cleared ≤ whole.cleared) (λ (w : View). (mail : ℕ) → mail < sent_in (take w.cleared whole.log) → 1 ≤ times mail (taken_in (parts_of ws)))
           (λ w most mail early.
           let more = sent_begins (take whole.cleared whole.log) (take w.cleared whole.log) (take_more_begins w.cleared whole.cleared whole.log most) in

@@ -49,7 +49,8 @@ abbrev pub IsLookup : List Mail → ℕ → Lookup → Type 0
 IsLookup mails number (Found mail) = slice_get mails number ≡ Some mail
 IsLookup mails number (Missing count) = (slice_get mails number ≡ None) × (count ≡ length mails)
 
--- The mails that were taken before are those below the number, and the part has taken this one as well, which was sent
+-- So many mails had been taken as the number says, so that it is the least that was not, and the part has taken it as well; it
+-- was sent. Which takers these were is told when the wire is closed
 pub record IsTaken (v : View) (mail : ℕ) (w : View) : Type 0 where
   pub takers : List ℕ
   pub number_is : mail ≡ length takers
@@ -58,7 +59,7 @@ pub record IsTaken (v : View) (mail : ℕ) (w : View) : Type 0 where
   pub parts_are : w.parts ≡ map (with_mail mail) v.parts
   pub cleared_is : w.cleared ≡ v.cleared
 
--- Each mail that was sent had been taken
+-- As many mails had been taken as were sent. Which takers these were is told when the wire is closed
 pub record IsCleared (v w : View) : Type 0 where
   pub takers : List ℕ
   pub took : Each (λ (p : Part). p.took ≡ taken_by p.number takers) v.parts

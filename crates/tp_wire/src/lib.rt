@@ -12,22 +12,24 @@
 //!   (`Law`; `lawful` and `acted` of `IsPosted`, `SeesAll`, `IsLook` and `IsClosed`)
 //! - The passes of an opened wire are numbered from 0 in their order, have seen nothing, and have a part of their
 //!   number each (`Wire::opened`)
-//! - A look answers a length that the history has reached, no less than the pass had been told or has seen. What the
-//!   pass has seen keeps the law, and no entry of its parts stands behind theirs (`Wire::look`: `look`)
+//! - A look answers a length, no less than the pass had been told or has seen; that the history has reached it is said
+//!   of the closed book (`told` of `IsClosed`). What the pass has seen keeps the law, and no entry of its parts stands
+//!   behind theirs (`Wire::look`: `look`)
 //! - A post adds the step at the place that it answers, behind all that its pass had seen and been told. The pass has
 //!   then seen the history up to this step and with it, and it stands in each of the pass's parts (`Wire::post`: `ok`).
 //!   Where memory is refused, the pass knows what it knew, and is given up (`err`)
-//! - A mail is that of its number in the whole history, which the pass has then seen; where there is none, so many
-//!   mails there are (`Wire::mail`: `ok`, `seen`)
-//! - A take answers the least number that was not taken, which the pass then shows as taken; or None exactly where each
-//!   mail of the history is taken, which the pass then shows as cleared (`Wire::take`: `some`, `none`, `seen`)
+//! - A mail is that of its number in what the pass has then seen, which is no shorter than it had been told; where there
+//!   is none, so many mails there are (`Wire::mail`: `ok`, `seen`)
+//! - A take answers a number below which as many mails had been taken, and the pass then shows it as taken; or None,
+//!   where as many had been taken as were sent in what the pass has then seen, which it shows as cleared (`Wire::take`:
+//!   `some`, `none`, `seen`). Who had taken which is said of the closed book
 //! - A pass that takes another in has the parts of both, the longer beginning and the greater numbers
 //!   (`Wire::take_in`). A pass that gives a part back keeps the others, and the new one has seen as much
 //!   (`Wire::give_back`)
 //! - The closed book is one history. All entries that name a part's number are the part's, in order. Where the parts of
-//!   all actors are given, each step stands in just one of them. No mail was taken twice, and each that was taken is
-//!   one of the book. Where all parts are given, each mail that was sent up to where a pass was cleared was taken
-//!   (`Wire::close`, by `IsClosed`)
+//!   all actors are given, each step stands in just one of them. The mails that were taken are the book's first ones,
+//!   each taken by one part, so that none was taken twice and none passed over; all that was sent up to where a pass was
+//!   cleared is among them (`Wire::close`, by `IsClosed`)
 //! - Want of memory is shown by the pass that met it, and what other passes know stays true (`Pass::given_up`; the
 //!   rule)
 //!
