@@ -9,7 +9,8 @@ class Run:
     """What a report or the refusal of a step says: who committed with which credentials, and which step was refused."""
 
     def __init__(self, answer):
-        self.used, self.refused_at, self.reason = {}, None, None
+        self.used, self.committed_at, self.proved_by = {}, {}, set()
+        self.refused_at, self.reason = None, None
         found = re.match(r"(?:refused )?step (\d+) (\w+) ", answer)
         if found:
             self.refused_at, self.reason = int(found.group(1)), found.group(2)
@@ -19,7 +20,9 @@ class Run:
             if words[1:2] == ["commit"]:
                 name = words[2]
                 self.used[name] = set()
+                self.committed_at[name] = int(words[0])
             elif words[:1] == ["proof"]:
+                self.proved_by.add((words[3], int(words[4])))
                 # a credential called none prints like no credential, so nothing is known of it
                 self.used[name].update(set(words[words.index("uses") + 1:]) - {"none"})
 
@@ -35,6 +38,16 @@ def errors(warnings, scenario, run):
             yield f"a refusal that is not foreseen: {path} {run.reason}"
 
 
+def trace_errors(warnings, trace):
+    """Of the warnings that a trace can show to be wrong: pushes from which a server learnt something."""
+    pushed = {re.search(r"\[(\d+)\]", told.path)[1]: told for told in warnings if told.kind == "pushed"}
+    mails = dict(re.findall(r"^(\d+) sent (\d+) Master \S+ push ", trace, re.M))
+    for place, told in pushed.items():
+        for took, server in re.findall(rf"^(\d+) took {mails.get(place)} Master (\S+) push ", trace, re.M):
+            if re.search(rf"^{took} knows {server} ", trace, re.M):
+                yield f"a wrong warning: {told.kind} {told.path}"
+
+
 def is_wrong(told, scenario, run):
     places = list(map(int, re.findall(r"\[(\d+)\]", told.path)))
     if told.kind == "refusal":
@@ -43,6 +56,13 @@ def is_wrong(told, scenario, run):
         return False
     if told.kind in ("denied", "outside"):
         return scenario["transactions"][places[0]]["name"] in run.used
+    if told.kind == "unpushed":
+        version, admin = re.search(r"version (\d+) of (\w+)", told.words).groups()
+        return (admin, int(version)) in run.proved_by
+    if told.kind == "last":
+        # a listed step is done at its own place
+        names = re.search(r" so (.*) cannot ", told.words)[1].split(" and ")
+        return any(run.committed_at.get(name, places[0]) < places[0] for name in names)
     if told.kind == "nevervalid":
         return any(scenario["credentials"][places[0]]["name"] in used for used in run.used.values())
     if told.kind == "stranger":

@@ -1,6 +1,7 @@
 """What is told of the bytes of a scenario: its faults, or where there is none what is probably not meant."""
 from .printing import Printer
 from .reading import BYTES_MAX, Reading
+from . import slips
 from .rules import Rules
 from .walk import FAULTS_MAX
 
@@ -12,7 +13,7 @@ def diagnosis_of(name, data, is_coloured=False):
     if reading.is_too_long():
         return printer.head("", "refused", "toolong") + f"\n    wanted: at most {BYTES_MAX:,} bytes\n1 fault\n", True
     if reading.no_text:
-        return of_bytes(printer, data[:reading.no_text.start]), True
+        return of_bytes(printer, data, reading.no_text.start), True
     if reading.no_json:
         return of_json(printer, reading.reader, reading.no_json), True
     if reading.faults:
@@ -20,11 +21,11 @@ def diagnosis_of(name, data, is_coloured=False):
     return of_warnings(printer, reading.warnings()), False
 
 
-def of_bytes(printer, before):
+def of_bytes(printer, data, at):
     """Of bytes that are no UTF-8: the text up to the first such byte, and a sign for it."""
-    printer.text = before.decode("utf-8") + "\ufffd"
+    printer.text = data[:at].decode("utf-8") + "\ufffd"
     at = len(printer.text) - 1
-    notes = [("wanted", "a character in UTF-8: this byte is part of none")]
+    notes = [("wanted", "a character in UTF-8: this byte is part of none"), ("perhaps", slips.of_bytes(data))]
     return printer.block((at, at + 1), "refused", "badjson", notes) + "1 fault\n"
 
 
@@ -42,19 +43,7 @@ def of_json(printer, reader, why):
 
 def hint_of(text, why):
     """What probably is meant where a text is no JSON, or None."""
-    found, before = text[why.at:why.at + 1], text[max(0, why.at - 1000):why.at].rstrip()[-1:]
-    wants_sign, wants_key = why.wanted.startswith(","), why.wanted.startswith("a key")
-    hints = (
-        (found in ("}", "]") and before == ",", f"no comma before the {found}"),
-        (found in ("/", "#"), "no comment: JSON has none"),
-        (found == "'", 'a text in " instead of \''),
-        (found == "\ufeff" and why.at == 0, "no byte order mark at the front"),
-        (wants_key and found.isalpha(), 'a key in "'),
-        (wants_sign and found in ('"', "{", "["), "a comma before this"),
-        (wants_sign and found.isdigit() and before == "0", "a number without a zero in front"),
-        (why.wanted == "a value" and found.isalpha(), 'a text in ", or one of the words true, false and null'),
-    )
-    return next((hint for is_so, hint in hints if is_so), None)
+    return slips.of_json(text, why, text[max(0, why.at - 1000):why.at].rstrip()[-1:])
 
 
 def of_faults(printer, faults):

@@ -59,21 +59,21 @@ def any_of(sets):
 
 
 class Library:
-    """All versions of an administrator's policy together."""
+    """Versions of an administrator's policy together, from one up to another."""
 
-    def __init__(self, admin, holders):
+    def __init__(self, admin, holders, first, last):
         self.name, self.holders, self.groups, self.found = admin["name"], holders, {}, {}
-        for rule in (rule for rules in admin["policies"] for rule in rules):
+        for rule in (rule for rules in admin["policies"][first - 1:last] for rule in rules):
             self.groups.setdefault((rule.pattern, rule.is_prefix, rule.action), []).append(rule.condition)
 
     def about(self, action, item):
-        """Groups of conditions under which some version allows an action on an item."""
+        """Groups of conditions under which some of the versions allow an action on an item."""
         patterns = [(item, False), *((item[:length], True) for length in range(len(item) + 1))]
         keys = [(*pattern, word) for pattern in patterns for word in (action, "any")]
         return [key for key in keys if key in self.groups]
 
     def allowed(self, action, item):
-        """Who is allowed an action on an item by some version."""
+        """Who is allowed an action on an item by some of the versions."""
         return any_of(map(self.holders_of, self.about(action, item)))
 
     def holders_of(self, key):

@@ -1,4 +1,4 @@
-"""A likely spelling: the nearest of the known words, where one is near."""
+"""Likely spellings: the nearest of the known words, where some are near."""
 
 
 def distance(one, other, most):
@@ -22,14 +22,33 @@ def distance(one, other, most):
     return min(row.get(len(other), far), far)
 
 
+SHOWN_MAX = 4
+# how many changes off a word is near, for up to four letters and for more
+MOST = 1, 2
+
+
 def near(word, known):
-    """The nearest known word but itself: one change off for up to four letters, else two. Of equals it is the first."""
-    best, least = None, 2 if len(word) <= 4 else 3
+    """The nearest known words but itself, as one text, or None. Of many equals the first ones are named."""
+    found = nearest(word, known)
+    return " or ".join(found[:SHOWN_MAX]) or None
+
+
+def only_near(word, known):
+    """The nearest known word where no other is as near, or None."""
+    found = nearest(word, known)
+    return found[0] if len(found) == 1 else None
+
+
+def nearest(word, known):
+    """The nearest known words but itself: one change off for up to four letters, else two."""
+    best, least = [], MOST[len(word) > 4]
     low, letters = word.lower(), set(word.lower())
     for other in known:
-        is_far = abs(len(other) - len(word)) >= least or len(letters.symmetric_difference(other)) >= 2 * least
+        is_far = abs(len(other) - len(word)) > least or len(letters.symmetric_difference(other)) > 2 * least
         if other != word and not is_far:
-            changes = distance(low, other, least - 1)
+            changes = distance(low, other, least)
             if changes < least:
-                best, least = other, changes
+                best, least = [], changes
+            if changes == least and other not in best:
+                best.append(other)
     return best

@@ -46,17 +46,19 @@ class Condition:
 
 
 class Allowance:
-    """A rule: an action, a pattern of items, and a condition."""
+    """A rule: an action, a pattern of items, and a condition. Of an `and` beside an `or` without parentheses it has the
+    start and the end in the text, or None."""
 
-    def __init__(self, action, pattern, is_prefix, condition):
+    def __init__(self, action, pattern, is_prefix, condition, beside=None):
         self.action, self.pattern, self.is_prefix, self.condition = action, pattern, is_prefix, condition
+        self.beside = beside
 
 
 class Parser:
     """Reads a policy from its first character on."""
 
     def __init__(self, text):
-        self.text, self.at, self.depth = text, 0, 0
+        self.text, self.at, self.depth, self.beside = text, 0, 0, None
 
     def policy(self):
         """The rules that the text says."""
@@ -112,9 +114,10 @@ class Parser:
         is_prefix = self.here() == "*"
         self.at += is_prefix
         self.word("if")
+        self.beside = None
         condition = self.condition()
         self.word("and", "or", ";")
-        return Allowance(action, pattern, is_prefix, condition)
+        return Allowance(action, pattern, is_prefix, condition, self.beside)
 
     def joined(self, word, member):
         """Members with a word between them; one alone is itself."""
@@ -133,7 +136,26 @@ class Parser:
         return True
 
     def condition(self):
-        return self.joined("or", lambda: self.joined("and", self.part))
+        both = []
+        condition = self.joined("or", lambda: self.conjunction(both))
+        if isinstance(condition, Condition) and condition.word == "or" and both and self.beside is None:
+            self.beside = both[0]
+        return condition
+
+    def conjunction(self, both):
+        """Parts with `and` between them. Where there are several, their place is added to `both`."""
+        self.skip_blanks()
+        start, count = self.at, 0
+
+        def part():
+            nonlocal count
+            count += 1
+            return self.part()
+
+        made = self.joined("and", part)
+        if count > 1:
+            both.append((start, self.at))
+        return made
 
     def part(self):
         self.skip_blanks()

@@ -1,5 +1,5 @@
 """What is found in the bytes of a scenario, without its telling."""
-from .near import near
+from .near import only_near
 from .reader import NoJson, Reader
 from .walk import Walk
 from .warnings import warnings_of
@@ -20,7 +20,7 @@ class Reading:
         except UnicodeDecodeError as why:
             self.no_text = why
             return
-        self.reader = Reader(self.text, near)
+        self.reader = Reader(self.text, only_near)
         try:
             node = self.reader.whole(rules.whole)
         except NoJson as why:

@@ -1,6 +1,7 @@
 """The walk over a scenario, in the program's order: its first fault is the program's. It goes on behind it."""
 import re
 
+from . import slips
 from .near import near
 from .policy import NoPolicy, policy_of
 from .reader import Spots
@@ -39,7 +40,8 @@ class Record(dict):
 
 
 class Walk:
-    """One walk. `declared` has the records of each kind by name; of a kind in `unsure` some could not be read."""
+    """One walk. `declared` has the records of each kind by name; of a kind in `unsure` some could not be read, and those
+    in `taken` are called as another one."""
 
     def __init__(self, text, rules):
         self.rules, self.faults = rules, []
@@ -47,6 +49,7 @@ class Walk:
         self.is_name = rules.by_name["name"].pattern.match
         kinds = [name for name, rule in rules.by_name.items() if "name" in rule.keys]
         self.declared, self.unsure, self.left = {kind: {} for kind in kinds}, set(), None
+        self.taken = set()
         self.steps_read, self.repeated, self.inside = {}, [], Spots(text).inside
 
     def scenario(self, node):
@@ -93,7 +96,8 @@ class Walk:
         for key, meant, inner in node.strange:
             likely = meant if meant is not None and meant not in fields else None
             wanted = f"no key of {rule.named()} is called so: its keys are {', '.join(rule.keys)}"
-            self.fault("shape", path, key, wanted, likely)
+            left = [other for other in rule.keys if other not in fields]
+            self.fault("shape", path, key, wanted, likely or near(key.value, left))
             if likely in rule.keys:
                 fields[likely] = inner
         missing = [key for key in rule.needed if key not in fields]
@@ -171,6 +175,9 @@ class Walk:
             return rule.least, opening or rule.most, f": the opening version of {key[1]}"
         least = record["min"] if place in (("item", "max"), ("item", "value")) else None
         most = record["max"] if place == ("item", "value") else None
+        if place == ("item", "value") and most is None:
+            # a fault of the value may only follow from that of max
+            least = None
         why = ": the least value is min" * (least is not None) + ", and the greatest is max" * (most is not None)
         return rule.least if least is None else least, rule.most if most is None else most, why
 
@@ -214,6 +221,7 @@ class Walk:
         others = ["transaction", "server"] if kind == "transaction" else [kind]
         for other in others:
             if name in self.declared[other]:
+                self.taken.add((kind, name))
                 where = self.declared[other][name].path
                 wanted = f"another name: {where} is {with_article(self.title(other))} that is called {name}"
                 return self.fault("range", path, node, wanted)
@@ -229,7 +237,8 @@ class Walk:
         for each in kinds:
             if name in self.declared[each]:
                 return True
-        if not self.unsure.intersection(kinds):
+        is_told = any((each, name) in self.taken for each in kinds)
+        if not is_told and not self.unsure.intersection(kinds):
             names = [other for each in kinds for other in self.declared[each]]
             what = " or ".join(with_article(self.title(each)) for each in kinds)
             self.fault("unknown", path, place, f"{what} that is declared: {some_of(names)}", near(name, names))
@@ -244,8 +253,8 @@ class Walk:
         try:
             return policy_of(text)
         except NoPolicy as why:
-            word = re.search("[A-Za-z0-9_]*$", text[:why.at]).group() + re.match("[A-Za-z0-9_]*", text[why.at:]).group()
-            hint = near(word, why.known) if word else None
+            word = slips.word_around(text, why.at)
+            hint = slips.of_policy(text, why.at) or (near(word, why.known) if word else None)
             place = self.inside(node, why.at, min(why.at + 1, len(text)))
             return self.fault("policy", f"{path} {why.word} {len(text[:why.at].encode())}", place, why.wanted, hint)
 
@@ -282,7 +291,8 @@ class Walk:
         return step
 
     def misspelled(self, node, path, why):
-        hint = near(node.value[why.start:why.end], why.known)
+        word = node.value[why.start:why.end]
+        hint = slips.blank_slip(node.value, why.start) or why.slip or near(word, why.known)
         return self.fault("shape", path, self.inside(node, why.start, why.end), why.wanted, hint)
 
     def is_used(self, node, path, said, uses):

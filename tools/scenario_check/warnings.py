@@ -1,7 +1,7 @@
 """What is probably not meant in a scenario that the program reads.
 
-Each kind is a function of the scenario, and none needs a run. What `denied`, `outside`, `nevervalid`, `stranger` and
-`refusal` say is so of every run.
+Each kind is a function of the scenario, and none needs a run. What `denied`, `outside`, `nevervalid`, `stranger`,
+`refusal`, `unpushed`, `pushed` and `last` say is so of every run.
 """
 from .held import Holders, Library
 from .near import near
@@ -9,8 +9,8 @@ from .refusals import refusals_of
 from .walk import some_of
 
 KINDS = (
-    "repeated", "denied", "outside", "nevervalid", "stranger", "unset", "noattr", "novalue", "norule", "late",
-    "unpublished", "older", "unpresented", "none", "refusal",
+    "repeated", "precedence", "denied", "outside", "nevervalid", "stranger", "unset", "noattr", "novalue", "norule",
+    "late", "unpublished", "older", "unpresented", "none", "refusal", "pushed", "unpushed", "last", "script",
 )
 ACTING = ("tick", "revoke", "publish", "push")
 
@@ -41,11 +41,26 @@ class Scenario:
         self.items = [item for server in self.servers for item in server["items"]]
         self.by_name = walk.declared
         self.holders = Holders(self.transactions, self.credentials)
-        self.libraries = {admin["name"]: Library(admin, self.holders) for admin in self.admins}
-        self.attributes = {}
+        self.libraries = {}
+        self.server_of = {item["name"]: server for server in self.servers for item in server["items"]}
+        self.submitted = {step.words[1] for step in self.steps if step.verb == "submit"}
+        self.attributes, self.published = {}, {}
         for credential in self.credentials:
             self.attributes.setdefault((credential["issuer"], credential["attr"]), []).append(credential["value"])
         self.named = [f"{issuer}.{attr}" for issuer, attr in self.attributes]
+
+    def library(self, name, first=1, last=None):
+        """The versions of an administrator's policy from one up to another, or up to the last."""
+        if (name, first, last) not in self.libraries:
+            self.libraries[name, first, last] = Library(self.by_name["admin"][name], self.holders, first, last)
+        return self.libraries[name, first, last]
+
+    def library_at(self, item):
+        """The versions of an item's administrator that its server can come to know."""
+        name = item["admin"]
+        opening = self.by_name["admin"][name]["opening"]
+        first = self.server_of[item["name"]]["knows"].get(name, opening)
+        return self.library(name, first, opening + self.publications(name))
 
     def ticks(self):
         """By how much all listed steps and all officers move the clock."""
@@ -54,15 +69,17 @@ class Scenario:
 
     def publications(self, admin):
         """How many versions of an administrator the listed steps and all publishers publish."""
-        scripts = [self.steps, *self.whole["publishers"]]
-        return sum(step.words == ["publish", admin] for script in scripts for step in script)
+        if admin not in self.published:
+            scripts = [self.steps, *self.whole["publishers"]]
+            self.published[admin] = sum(step.words == ["publish", admin] for script in scripts for step in script)
+        return self.published[admin]
 
 
 def warnings_of(walk, whole):
     """All warnings, in the order of the walk."""
     scenario = Scenario(walk, whole)
     made = []
-    for kinds in (of_keys, of_policies, of_credentials, of_servers, of_transactions, of_steps):
+    for kinds in (of_keys, of_policies, of_credentials, of_servers, of_transactions, of_steps, of_scripts):
         made += kinds(scenario)
     return made
 
@@ -78,6 +95,8 @@ def of_policies(scenario):
         nodes = admin.nodes["policies"].value
         for at, (rules, node) in enumerate(zip(admin["policies"], nodes)):
             path = f"{admin.path}.policies[{at}]"
+            for rule in rules:
+                yield from of_precedence(scenario, rule, path, node)
             for atom in (atom for rule in rules for atom in rule.condition.atoms()):
                 yield from of_atom(scenario, atom, path, scenario.inside(node, atom.start, atom.end))
         published = admin["opening"] + scenario.publications(admin["name"])
@@ -87,6 +106,14 @@ def of_policies(scenario):
                 versions = f"version {len(nodes)} is"
             words = f"{versions} published by no step: add publish {admin['name']}"
             yield Told("unpublished", admin.path, place_of(nodes[published]), words)
+
+
+def of_precedence(scenario, rule, path, node):
+    """Of an `and` beside an `or`, without parentheses."""
+    if rule.beside is not None:
+        said = " ".join(node.value[slice(*rule.beside)].split())
+        words = f"and binds before or, so one side of the or is: {said}. Parentheses say which is meant"
+        yield Told("precedence", path, scenario.inside(node, *rule.beside), words)
 
 
 def of_atom(scenario, atom, path, place):
@@ -134,7 +161,7 @@ def of_servers(scenario):
                 words = f"{server['name']} begins with version {version} of {admin}, and the newest is {opening}"
                 yield Told("older", f"{server.path}.knows.{admin}", place_of(node), words)
         for item in server["items"]:
-            library = scenario.libraries[item["admin"]]
+            library = scenario.library(item["admin"])
             if not library.about("read", item["name"]) and not library.about("write", item["name"]):
                 words = f"no rule of {item['admin']} is about {item['name']}, so nobody may read or write it"
                 yield Told("norule", item.path, place_of(item.nodes["name"]), words)
@@ -142,13 +169,70 @@ def of_servers(scenario):
 
 def of_steps(scenario):
     nodes = scenario.whole.nodes["steps"].value if scenario.steps else ()
-    for at, why in refusals_of(scenario):
+    refused = list(refusals_of(scenario))
+    for at, why in refused:
         yield Told("refusal", f"$.steps[{at}]", place_of(nodes[at]), f"this step is refused: {why}")
+    left_out = {at for at, _ in refused}
+    for kind, at, words in [*of_versions(scenario, left_out), *of_last_steps(scenario)]:
+        if at not in left_out:
+            yield Told(kind, f"$.steps[{at}]", place_of(nodes[at]), words)
+
+
+def of_versions(scenario, left_out):
+    """Of pushes that tell nothing new, and of publications that no server can come to know of."""
+    newest, unpushed = {admin["name"]: admin["opening"] for admin in scenario.admins}, {}
+    is_view = all(transaction["level"] == "view" for transaction in scenario.transactions)
+    for at, step in enumerate(scenario.steps):
+        if at in left_out or step.verb not in ("publish", "push"):
+            continue
+        admin = step.words[1]
+        if step.verb == "publish":
+            newest[admin] += 1
+            unpushed.setdefault(admin, []).append((at, newest[admin]))
+            continue
+        unpushed.pop(admin, None)
+        opening, server = scenario.by_name["admin"][admin]["opening"], step.words[2]
+        if newest[admin] == opening == scenario.by_name["server"][server]["knows"].get(admin, opening):
+            yield "pushed", at, f"{server} knows version {opening} of {admin} already, and no newer one is published by now"
+    for admin, published in unpushed.items() if is_view else ():
+        for at, version in published:
+            words = f"no server comes to know version {version} of {admin}: no step pushes it behind this"
+            yield "unpushed", at, f"{words}, and no transaction under global consistency asks the master"
+
+
+def of_last_steps(scenario):
+    """Of revocations behind all that is listed, while who presents the credential surely runs."""
+    running, last = {}, len(scenario.steps)
+    while last and scenario.steps[last - 1].verb in ACTING:
+        last -= 1
+    queries = {transaction["name"]: len(transaction["queries"]) for transaction in scenario.transactions}
+    for step in scenario.steps[:last]:
+        if step.verb == "submit":
+            running[step.words[1]] = 2 * queries[step.words[1]] + 2
+        elif step.verb == "deliver" or step.is_cut():
+            # a transaction that commits takes two mails for each query, and a request and a vote at least
+            running = {name: left - 1 for name, left in running.items()}
+    for at in range(last, len(scenario.steps)):
+        step = scenario.steps[at]
+        names = [
+            transaction["name"] for transaction in scenario.transactions
+            if running.get(transaction["name"], 0) > 0 and step.words[1] in transaction["credentials"]
+        ]
+        if step.verb == "revoke" and names:
+            words = f"what comes by itself comes behind the last step, so {' and '.join(names)} cannot have committed by now"
+            yield "last", at, f"{words}, and present{'s' * (len(names) == 1)} {step.words[1]}"
+
+
+def of_scripts(scenario):
+    """Of the scripts of a race."""
+    for key in ("clients", "publishers", "officers"):
+        if any(scenario.whole[key]):
+            words = f"run does nothing of {key}, which are scripts for a race of threads: what it is to do stands in steps"
+            yield Told("script", f"$.{key}", place_of(scenario.whole.nodes[key]), words)
 
 
 def of_transactions(scenario):
-    submitted = {step.words[1] for step in scenario.steps if step.verb == "submit"}
-    submitted.update(name for client in scenario.whole["clients"] for name in client)
+    submitted = scenario.submitted.union(*scenario.whole["clients"])
     acting = next((at for at, step in enumerate(scenario.steps) if step.verb in ACTING), None)
     for transaction in scenario.transactions:
         name = transaction["name"]
@@ -177,9 +261,10 @@ def of_queries(scenario, transaction):
         yield from of_registers(scenario, query, node, path, read)
         if query.verb == "read":
             read.add(query.words[3])
-        library = scenario.libraries[item["admin"]]
+        library = scenario.library_at(item)
         if not library.allowed(query.verb, item["name"]) & holder:
-            yield Told("denied", path, place_of(node), denial_of(library, query, transaction))
+            server = scenario.server_of[item["name"]]["name"]
+            yield Told("denied", path, place_of(node), denial_of(library, query, transaction, server))
         if last.get(item["name"]) == at and is_outside(query, item):
             values = f"{sum_of(query)} is not from {item['min']} to {item['max']}"
             words = f"{values}, so {transaction['name']} never commits"
@@ -194,9 +279,10 @@ def of_registers(scenario, query, node, path, read):
             yield Told("unset", path, scenario.inside(node, place, place + len(word)), words, word, sorted(read))
 
 
-def denial_of(library, query, transaction):
+def denial_of(library, query, transaction, server):
     """Why a query is never allowed, with what the subject could present as well."""
-    words = f"no version of {library.name} allows this with what {transaction['name']} presents, so it never commits"
+    words = f"no version of {library.name} that {server} can come to know allows this with what {transaction['name']}"
+    words += " presents, so it never commits"
     lacking = library.lacking(query.verb, query.words[1], transaction)
     return f"{words}; with {' and '.join(lacking)} too one would" if lacking else words
 

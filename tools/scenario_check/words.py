@@ -1,6 +1,8 @@
 """Queries and steps, word by word. The schema's pattern says which are right; where one is not, the words say why."""
 import re
 
+from .slips import of_query, of_step, strange_blank
+
 NUMBER = re.compile(r"(0|[1-9][0-9]{0,14})\Z")
 REGISTER = re.compile(r"r[1-9]\Z")
 NAMES = {"TXN": "transaction", "ADMIN": "admin", "SERVER": "server", "CRED": "credential", "ACTOR": "actor"}
@@ -10,9 +12,9 @@ TERM = "a register r1 to r9, or a number of at most 15 digits, with spaces aroun
 class Misspelled(Exception):
     """The text is not spelled as it is to be, from one place of it to another. Known words may have been meant."""
 
-    def __init__(self, start, end, wanted, known=()):
+    def __init__(self, start, end, wanted, known=(), slip=None):
         super().__init__(wanted)
-        self.start, self.end, self.wanted, self.known = start, end, wanted, known
+        self.start, self.end, self.wanted, self.known, self.slip = start, end, wanted, known, slip
 
 
 class Said:
@@ -43,8 +45,9 @@ def said(text):
 
 def split(text):
     """The words of a text with their places, where blanks stand as they are to."""
-    for blank in re.finditer(r"[\t\n\r]", text):
-        raise Misspelled(blank.start(), blank.end(), "a space: words are separated by spaces alone")
+    for at, letter in enumerate(text):
+        if letter in "\t\n\r" or strange_blank(letter):
+            raise Misspelled(at, at + 1, "a space: words are separated by spaces alone")
     if text[:1] == " " or text[-1:] == " ":
         at = 0 if text[:1] == " " else len(text.rstrip(" "))
         raise Misspelled(at, at + 1, "no space at the ends")
@@ -83,7 +86,7 @@ class Steps:
         for word, place in words:
             left = [form for form in forms if len(form) > at and self.fits(form[at], word)]
             if not left:
-                self.stop(forms, at, place, place + len(word))
+                self.stop(forms, at, place, place + len(word), of_step(word, text[:place].rstrip()))
             forms, at = left, at + 1
         if not any(len(form) == at for form in forms):
             self.stop(forms, at, len(text), len(text))
@@ -93,7 +96,7 @@ class Steps:
             return self.name.match(word)
         return NUMBER.match(word) if form.isupper() else form == word
 
-    def stop(self, forms, at, start, end):
+    def stop(self, forms, at, start, end, slip=None):
         """Raises for a word that fits none of the forms, or for one that is missing."""
         nexts = [form[at] for form in forms if len(form) > at]
         shown = "one of the steps " if at == 0 else ""
@@ -103,7 +106,7 @@ class Steps:
             wanted = shown
         elif nexts:
             wanted = f"{self.meant(nexts[0])}: {shown}"
-        raise Misspelled(start, end, wanted, [word for word in nexts if word.islower()])
+        raise Misspelled(start, end, wanted, [word for word in nexts if word.islower()], slip)
 
     def meant(self, word):
         if word in NAMES:
@@ -146,13 +149,13 @@ class Queries:
         for sign, place in words:
             if sign not in ("+", "-"):
                 wanted = f"+ or - between two terms, with a space on each side: {form}"
-                raise Misspelled(place, place + len(sign), wanted)
+                raise Misspelled(place, place + len(sign), wanted, (), of_query(text, place, sign))
             self.word(words, text, f"{TERM}: {form}", is_term)
 
     def word(self, words, text, wanted, is_right, known=()):
         word, place = next(words, ("", len(text)))
         if not word or not is_right(word):
-            raise Misspelled(place, place + len(word), wanted, known)
+            raise Misspelled(place, place + len(word), wanted, known, of_query(text, place, word))
         return word
 
 
