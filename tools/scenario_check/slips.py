@@ -3,7 +3,7 @@ import re
 import unicodedata
 
 CURLY = "\u2018\u2019\u201a\u201b\u201c\u201d\u201e\u201f\u00ab\u00bb"
-DENYING = ("deny", "forbid", "refuse", "reject", "disallow", "block", "prohibit", "except", "unless")
+DENYING = ("deny", "forbid", "refuse", "reject", "disallow", "block", "prohibit", "except")
 ALLOWING = ("permit", "grant", "let", "accept")
 CHANGING = ("delete", "create", "update", "insert", "remove", "edit", "append", "set", "change")
 STRANGE_WORDS = ("None", "True", "False", "NaN", "Infinity", "undefined", "nil", "NULL", "Null")
@@ -37,6 +37,8 @@ def of_policy(text, at):
 def of_rule(word, found, before, rest):
     """In the front of a rule, up to its condition."""
     at_pattern = re.search(r"\bon\s+[a-z0-9_]*\*?$", before)
+    if word.lower() in ("unless", "where", "when", "provided"):
+        return "if, and behind it what may be" if word.lower() == "unless" else "if"
     if word.lower() in DENYING and not before.endswith("if"):
         return "no rule denies: whatever no rule allows is denied, so leave this out and allow less"
     if word.lower() in ALLOWING:
@@ -47,6 +49,10 @@ def of_rule(word, found, before, rest):
         return "the * right behind the beginning of the names, without a blank"
     if at_pattern and found == ",":
         return "one item in each rule: write another rule for the next one"
+    if at_pattern and found == ".":
+        return "the item alone, without its server: no other has its name"
+    if found == "," and re.search(r"\b(read|write|any)$", before):
+        return "any, for both, or a rule for each"
     if at_pattern and found == ";":
         return "if true before the ;"
     if at_pattern and before.endswith("*"):
@@ -56,8 +62,12 @@ def of_rule(word, found, before, rest):
 
 def of_condition(word, before, rest):
     """In a condition."""
-    if rest.startswith("!") or before.endswith("!") or word.lower() == "not":
+    if rest.startswith(("!", "<>")) or before.endswith("!") or word.lower() == "not" or (before[-1:] + rest[:1]) == "<>":
         return "what may be: nothing says what may not be, so list the values that are allowed"
+    if word in ("is", "equals", "eq"):
+        return "="
+    if word == "in":
+        return "a condition for each value, with or between them"
     for sign, meant in (("&", "and"), ("|", "or")):
         if rest.startswith(sign):
             return meant
