@@ -17,7 +17,8 @@ class Mistake:
     """A mistake: its name, its bytes, and what has to be told of it."""
 
     def __init__(self, base, said):
-        self.name, self.told, self.says, self.trace = said["name"], said["told"], said.get("says", ""), said.get("trace")
+        self.name, self.told = said["name"], said["told"]
+        self.says, self.trace = said.get("says", ""), said.get("trace")
         old, new = said["old"], said["new"]
         if old == "*":
             # the whole

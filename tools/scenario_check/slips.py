@@ -6,7 +6,7 @@ CURLY = "\u2018\u2019\u201a\u201b\u201c\u201d\u201e\u201f\u00ab\u00bb"
 DENYING = ("deny", "forbid", "refuse", "reject", "disallow", "block", "prohibit", "except")
 ALLOWING = ("permit", "grant", "let", "accept")
 CHANGING = ("delete", "create", "update", "insert", "remove", "edit", "append", "set", "change")
-STRANGE_WORDS = ("None", "True", "False", "NaN", "Infinity", "undefined", "nil", "NULL", "Null")
+NOTHING = ("None", "undefined", "nil", "NULL", "Null")
 
 
 def strange_blank(letter):
@@ -62,7 +62,8 @@ def of_rule(word, found, before, rest):
 
 def of_condition(word, before, rest):
     """In a condition."""
-    if rest.startswith(("!", "<>")) or before.endswith("!") or word.lower() == "not" or (before[-1:] + rest[:1]) == "<>":
+    is_unequal = rest.startswith("!") or before.endswith("!") or before[-1:] + rest[:1] == "<>"
+    if is_unequal or word.lower() == "not":
         return "what may be: nothing says what may not be, so list the values that are allowed"
     if word in ("is", "equals", "eq"):
         return "="
@@ -114,18 +115,21 @@ def of_json(text, why, before):
     """What is meant where a text is no JSON, or None."""
     found = text[why.at:why.at + 1]
     wants_sign, wants_key = why.wanted.startswith(","), why.wanted.startswith("a key")
+    wants_end = why.wanted == "the end of the text"
     word = re.match(r"[A-Za-z]*", text[why.at:]).group()
     line = text[text.rfind("\n", 0, why.at) + 1:why.at + 1]
+    blank = strange_blank(found) if found else None
     hints = (
         (found == "\ufeff" and why.at == 0, "no byte order mark at the front"),
         (why.wanted.startswith("a character of") and found in ("\n", "\r"),
          "no line break within a text: a text ends in its line. A blank in its place says the same, or \\n"),
         (why.wanted.startswith("a character of") and found == "\t", "a blank, or \\t, in place of the tab"),
-        (word in STRANGE_WORDS, f"no {word}: a key that has no value is left out"),
+        (word in NOTHING, f"no {word}: a key that has no value is left out"),
+        (word in ("True", "False", "NaN", "Infinity"), f"no {word}: values are texts and whole numbers"),
         (any(sign in line for sign in CURLY), 'straight quotes, ", in place of the curly ones'),
-        (found and strange_blank(found), f"a space in place of the {strange_blank(found) if found else ''} that stands here"),
-        (why.wanted == "the end of the text" and found in ("{", "["), "one scenario in a file: here a second one begins"),
-        (why.wanted == "the end of the text" and found in ("}", "]"), f"no {found}: nothing is open any more"),
+        (blank, f"a space in place of the {blank} that stands here"),
+        (wants_end and found in ("{", "["), "one scenario in a file: here a second one begins"),
+        (wants_end and found in ("}", "]"), f"no {found}: nothing is open any more"),
         (found in ("}", "]") and before == ",", f"no comma before the {found}"),
         (found in ("/", "#"), "no comment: JSON has none"),
         (found == "'", 'a text in " instead of \''),

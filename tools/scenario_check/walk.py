@@ -40,8 +40,8 @@ class Record(dict):
 
 
 class Walk:
-    """One walk. `declared` has the records of each kind by name; of a kind in `unsure` some could not be read, and those
-    in `taken` are called as another one."""
+    """One walk. `declared` has the records of each kind by name. Of a kind in `unsure` some could not be read, and what
+    is in `taken` has the name of another one."""
 
     def __init__(self, text, rules):
         self.rules, self.faults = rules, []

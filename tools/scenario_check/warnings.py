@@ -193,7 +193,8 @@ def of_versions(scenario, left_out):
         unpushed.pop(admin, None)
         opening, server = scenario.by_name["admin"][admin]["opening"], step.words[2]
         if newest[admin] == opening == scenario.by_name["server"][server]["knows"].get(admin, opening):
-            yield "pushed", at, f"{server} knows version {opening} of {admin} already, and no newer one is published by now"
+            words = f"{server} knows version {opening} of {admin} already, and no newer one is published by now"
+            yield "pushed", at, words
     for admin, published in unpushed.items() if is_view else ():
         for at, version in published:
             words = f"no server comes to know version {version} of {admin}: no step pushes it behind this"
@@ -219,16 +220,16 @@ def of_last_steps(scenario):
             if running.get(transaction["name"], 0) > 0 and step.words[1] in transaction["credentials"]
         ]
         if step.verb == "revoke" and names:
-            words = f"what comes by itself comes behind the last step, so {' and '.join(names)} cannot have committed by now"
-            yield "last", at, f"{words}, and present{'s' * (len(names) == 1)} {step.words[1]}"
+            so = f"{' and '.join(names)} cannot have committed by now, and present{'s' * (len(names) == 1)}"
+            yield "last", at, f"what comes by itself comes behind the last step, so {so} {step.words[1]}"
 
 
 def of_scripts(scenario):
     """Of the scripts of a race."""
     for key in ("clients", "publishers", "officers"):
         if any(scenario.whole[key]):
-            words = f"run does nothing of {key}, which are scripts for a race of threads: what it is to do stands in steps"
-            yield Told("script", f"$.{key}", place_of(scenario.whole.nodes[key]), words)
+            words = f"run does nothing of {key}, which are scripts for a race of threads: what it is to do stands in"
+            yield Told("script", f"$.{key}", place_of(scenario.whole.nodes[key]), f"{words} steps")
 
 
 def of_transactions(scenario):
