@@ -55,6 +55,15 @@ def cases():
             yield Case(f"{os.path.basename(path)}:{at}", "ok", text.encode())
 
 
+def traces():
+    """All recorded traces of runs that end: the name, the scenario's bytes, and the trace."""
+    for _, line in lines_of("runs.txt"):
+        named, status, *words = line.split()
+        if words == ["trace"] and status == "0":
+            path = os.path.join(CASES, named)
+            yield named, read(path + ".json"), read(path + ".out").decode()
+
+
 def run_of(named, status):
     """A run of its own files: NAME, or NAME:LENGTH with blanks up to the length."""
     name, _, length = named.partition(":")
