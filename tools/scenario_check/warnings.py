@@ -203,21 +203,21 @@ def of_versions(scenario, left_out):
 
 def of_last_steps(scenario):
     """Of revocations behind all that is listed, while who presents the credential surely runs."""
-    running, last = {}, len(scenario.steps)
+    delivered, needed, last = 0, {}, len(scenario.steps)
     while last and scenario.steps[last - 1].verb in ACTING:
         last -= 1
     queries = {transaction["name"]: len(transaction["queries"]) for transaction in scenario.transactions}
     for step in scenario.steps[:last]:
         if step.verb == "submit":
-            running[step.words[1]] = 2 * queries[step.words[1]] + 2
-        elif step.verb == "deliver" or step.is_cut():
             # a transaction that commits takes two mails for each query, and a request and a vote at least
-            running = {name: left - 1 for name, left in running.items()}
+            needed[step.words[1]] = delivered + 2 * queries[step.words[1]] + 2
+        elif step.verb == "deliver" or step.is_cut():
+            delivered += 1
     for at in range(last, len(scenario.steps)):
         step = scenario.steps[at]
         names = [
             transaction["name"] for transaction in scenario.transactions
-            if running.get(transaction["name"], 0) > 0 and step.words[1] in transaction["credentials"]
+            if needed.get(transaction["name"], 0) > delivered and step.words[1] in transaction["credentials"]
         ]
         if step.verb == "revoke" and names:
             so = f"{' and '.join(names)} cannot have committed by now, and present{'s' * (len(names) == 1)}"
