@@ -58,6 +58,15 @@ def passes_of(edits):
     return groups
 
 
+def text_with(path, hunks):
+    """A file of code with what these hunks do to it."""
+    text = text_of(path).split("\n")
+    # from the last to the first, so that the numbers of the lines before stay
+    for _, first, behind, new in sorted((it for it in hunks if it[0] == path), key=lambda it: -it[1]):
+        text[first:behind] = new
+    return "\n".join(text)
+
+
 def written(members, room):
     """Copies the crates that these edits change into a room, with all the edits made."""
     changed = {path.split("/")[1] for _, hunks in members for path, _, _, _ in hunks}
@@ -66,12 +75,8 @@ def written(members, room):
             if os.path.isdir(os.path.join(TOP, "crates", crate, part)):
                 shutil.copytree(os.path.join(TOP, "crates", crate, part), os.path.join(room, "crates", crate, part))
     for path in {it[0] for _, hunks in members for it in hunks}:
-        text = text_of(path).split("\n")
-        # from the last to the first, so that the numbers of the lines before stay
-        for _, first, behind, new in sorted((it for _, hunks in members for it in hunks if it[0] == path), key=lambda it: -it[1]):
-            text[first:behind] = new
         with open(os.path.join(room, path), "w", encoding="utf-8") as out:
-            out.write("\n".join(text))
+            out.write(text_with(path, [it for _, hunks in members for it in hunks]))
     return changed
 
 

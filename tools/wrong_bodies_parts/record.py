@@ -4,7 +4,7 @@
     at        the crate whose check decided
     sources   the checksums of the sources of that crate and of those that the edit changes
     below     one checksum of the sources of all others that the crate at which it was decided stands on
-    verdict, by, seconds   what came of it, what said so, and how long that took
+    verdict, by, seconds   what came of it, what said so, and how long that took: of those that were tried together, its share
 """
 import contextlib
 import fcntl
