@@ -130,7 +130,6 @@ impl Coordinator {
     /// What the submission of the transaction does. After NoMemory nothing is said of the state.
     pub fn submit(
         &mut self,
-        alloc: Global,
         spare: &mut Spare<Letter>,
         scenario: &Scenario,
     ) -> Result<Reaction, NoMemory>
@@ -138,9 +137,9 @@ impl Coordinator {
             Gives (row.submit_row scenario.now self.old) self.new reaction) }
     {
         match self.move_at(scenario, Point::Begun { query: 1 }) {
-            Move::SendQuery => self.sends_next(alloc, spare, scenario, 1, None),
-            Move::Ask => self.asks_in(alloc, spare, Phase::Stapling { query: 1 }),
-            _ => Ok(ignored(alloc)),
+            Move::SendQuery => self.sends_next(spare, scenario, 1, None),
+            Move::Ask => self.asks_in(spare, Phase::Stapling { query: 1 }),
+            _ => Ok(ignored(spare.alloc())),
         }
     }
 
@@ -168,7 +167,6 @@ impl Coordinator {
     /// What the coordinator does on receipt of a mail. After NoMemory nothing is said of the state.
     pub fn receive(
         &mut self,
-        alloc: Global,
         spare: &mut Spare<Letter>,
         scenario: &Scenario,
         mail: &Mail,
@@ -176,15 +174,16 @@ impl Coordinator {
         ensures { IfOk result (λ reaction.
             Gives (row.coordinator_row scenario.now self.old mail.now) self.new reaction) }
     {
+        let alloc = spare.alloc();
         let from = mail.letter.from;
         match &mail.letter.body {
-            Body::Done(done) => self.on_done(alloc, spare, scenario, mail.sent, from, done),
-            Body::Tell(tell) => self.on_tell(alloc, spare, scenario, mail.sent, tell),
-            Body::Verdicts(reply) => self.on_verdicts(alloc, spare, scenario, from, reply),
-            Body::Vote(reply) => self.on_vote(alloc, spare, scenario, from, reply),
-            Body::Newest(reply) => self.on_newest(alloc, spare, scenario, mail.sent, reply),
+            Body::Done(done) => self.on_done(spare, scenario, mail.sent, from, done),
+            Body::Tell(tell) => self.on_tell(spare, scenario, mail.sent, tell),
+            Body::Verdicts(reply) => self.on_verdicts(spare, scenario, from, reply),
+            Body::Vote(reply) => self.on_vote(spare, scenario, from, reply),
+            Body::Newest(reply) => self.on_newest(spare, scenario, mail.sent, reply),
             Body::Ack(_) => self.on_ack(alloc, from),
-            Body::Inquire(_) => self.on_inquire(alloc, spare, from),
+            Body::Inquire(_) => self.on_inquire(spare, from),
             _ => Ok(ignored(alloc)),
         }
     }

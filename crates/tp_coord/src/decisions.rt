@@ -118,13 +118,13 @@ impl Coordinator {
     /// A server that booted asks how the transaction was decided: once it was, the server is told again.
     pub(crate) fn on_inquire(
         &self,
-        alloc: Global,
         spare: &mut Spare<Letter>,
         from: Actor,
     ) -> Result<Reaction, NoMemory>
         ensures { IfOk result (λ reaction.
             Gives (row.on_inquire self.now self.now.phase from) self.now reaction) }
     {
+        let alloc = spare.alloc();
         let Actor::Server(server) = from else {
             return Ok(ignored(alloc));
         };
@@ -132,7 +132,7 @@ impl Coordinator {
             Phase::Ending {
                 outcome,
                 awaited: _,
-            } => sent_alone(alloc, spare, self.decide_letter(*outcome, server)),
+            } => sent_alone(spare, self.decide_letter(*outcome, server)),
             _ => Ok(ignored(alloc)),
         }
     }

@@ -5,7 +5,6 @@ ghost use Rattle.tp_model.specs.Demand as demand;
 ghost use Rattle.tp_coord.specs.Row as row;
 
 use crate::coordinator::{Coordinator, Phase};
-use std::alloc::Global;
 use tp_model::{VIEW_ROUNDS, reads_master};
 use tp_scheme::{Move, Point, next_move};
 use tp_types::{Letter, Level, NoMemory, Reaction, Scenario, Spare, Transaction, ignored};
@@ -52,7 +51,6 @@ impl Coordinator {
     #[inline(always)]
     pub(crate) fn makes(
         &mut self,
-        alloc: Global,
         spare: &mut Spare<Letter>,
         scenario: &Scenario,
         at: Point,
@@ -62,15 +60,16 @@ impl Coordinator {
         ensures { IfOk result (λ reaction.
             Gives (row.makes scenario.now self.old at rounds next) self.new reaction) }
     {
+        let alloc = spare.alloc();
         match next {
-            Move::SendQuery => self.sends_next(alloc, spare, scenario, next_at(at), None),
+            Move::SendQuery => self.sends_next(spare, scenario, next_at(at), None),
             Move::Ask => {
                 let query = next_at(at);
-                self.asks_in(alloc, spare, Phase::Stapling { query })
+                self.asks_in(spare, Phase::Stapling { query })
             }
-            Move::Probe => self.probes(alloc, spare, probing_at(at)),
-            Move::Validate => self.validates(alloc, spare, scenario, number_at(at)),
-            Move::CommitRounds => self.begins_rounds(alloc, spare, scenario),
+            Move::Probe => self.probes(spare, probing_at(at)),
+            Move::Validate => self.validates(spare, scenario, number_at(at)),
+            Move::CommitRounds => self.begins_rounds(spare, scenario),
             Move::Votes => self.asks_votes(alloc),
             Move::Decide => self.commits(alloc, rounds),
             Move::Following => Ok(ignored(alloc)),

@@ -23,7 +23,6 @@ impl Coordinator {
     /// A query is sent, with the staple if it is proved as it runs, where it has a server.
     pub(crate) fn sends_next(
         &mut self,
-        alloc: Global,
         spare: &mut Spare<Letter>,
         scenario: &Scenario,
         number: u32,
@@ -36,8 +35,8 @@ impl Coordinator {
             self.new reaction) }
     {
         match self.home_of(scenario, number) {
-            None => Ok(ignored(alloc)),
-            Some(server) => self.sends_query(alloc, spare, scenario, number, staple, server),
+            None => Ok(ignored(spare.alloc())),
+            Some(server) => self.sends_query(spare, scenario, number, staple, server),
         }
     }
 
@@ -66,7 +65,6 @@ impl Coordinator {
 
     fn sends_query(
         &mut self,
-        alloc: Global,
         spare: &mut Spare<Letter>,
         scenario: &Scenario,
         number: u32,
@@ -77,12 +75,12 @@ impl Coordinator {
             Gives (row.sends_query scenario.now self.old number staple server) self.new reaction) }
     {
         let turn = self.next_turn();
-        let letter = self.query_letter(alloc, scenario, turn, server, number, &staple)?;
+        let letter = self.query_letter(spare.alloc(), scenario, turn, server, number, &staple)?;
         self.awaits(Phase::Querying {
             query: number,
             staple,
         });
-        sent_alone(alloc, spare, letter)
+        sent_alone(spare, letter)
     }
 
     pub(crate) fn query_letter(
@@ -114,7 +112,6 @@ impl Coordinator {
 
     pub(crate) fn on_done(
         &mut self,
-        alloc: Global,
         spare: &mut Spare<Letter>,
         scenario: &Scenario,
         sent: Place,
@@ -126,6 +123,7 @@ impl Coordinator {
             (row.on_done scenario.now self.old self.old.phase sent from done.now)
             self.new reaction) }
     {
+        let alloc = spare.alloc();
         if !self.awaits_query(done) {
             return Ok(ignored(alloc));
         }
@@ -134,7 +132,7 @@ impl Coordinator {
         };
         match server_of(scenario, query) {
             Some(server) if is_from(from, server) => {
-                self.answered(alloc, spare, scenario, sent, server, done, query)
+                self.answered(spare, scenario, sent, server, done, query)
             }
             _ => Ok(ignored(alloc)),
         }
@@ -151,7 +149,6 @@ impl Coordinator {
 
     fn answered(
         &mut self,
-        alloc: Global,
         spare: &mut Spare<Letter>,
         scenario: &Scenario,
         sent: Place,
@@ -166,9 +163,10 @@ impl Coordinator {
             done.now.answer)
             self.new reaction) }
     {
+        let alloc = spare.alloc();
         match &done.answer {
             Answer::Ran { value, verdict } => {
-                self.runs_on(alloc, spare, scenario, server, done, query, *value, verdict)
+                self.runs_on(spare, scenario, server, done, query, *value, verdict)
             }
             Answer::Denied { verdict } => self.aborts(alloc, Cause::Denied(denied_by(verdict))),
             Answer::Newer(newer) => self.aborts(alloc, Cause::Newer(*newer)),
@@ -188,7 +186,6 @@ impl Coordinator {
     /// A query ran: the table is asked what follows before its deed and its proof are kept.
     fn runs_on(
         &mut self,
-        alloc: Global,
         spare: &mut Spare<Letter>,
         scenario: &Scenario,
         server: ServerId,
@@ -205,13 +202,14 @@ impl Coordinator {
             (Point.Ran done.now.query) 0)
             self.new reaction) }
     {
+        let alloc = spare.alloc();
         let at = Point::Ran { query: done.query };
         let Some(next) = self.move_made(scenario, at) else {
             return Ok(ignored(alloc));
         };
         self.ran(alloc, server, done, query, value)?;
         self.keeps_proof(alloc, scenario, verdict)?;
-        self.makes(alloc, spare, scenario, at, next, 0)
+        self.makes(spare, scenario, at, next, 0)
     }
 
     /// What a query did is kept, and the epoch of its server.

@@ -28,7 +28,6 @@ impl Coordinator {
     /// The master is asked for the newest versions, which the phase awaits.
     pub(crate) fn probes(
         &mut self,
-        alloc: Global,
         spare: &mut Spare<Letter>,
         phase: Phase,
     ) -> Result<Reaction, NoMemory>
@@ -36,12 +35,11 @@ impl Coordinator {
     {
         let letter = self.probe_letter(self.next_turn());
         self.awaits(phase);
-        sent_alone(alloc, spare, letter)
+        sent_alone(spare, letter)
     }
 
     pub(crate) fn on_newest(
         &mut self,
-        alloc: Global,
         spare: &mut Spare<Letter>,
         scenario: &Scenario,
         sent: Place,
@@ -51,11 +49,12 @@ impl Coordinator {
             Gives (row.on_newest scenario.now self.old self.old.phase sent reply.now)
             self.new reaction) }
     {
+        let alloc = spare.alloc();
         if reply.turn != self.turn {
             return Ok(ignored(alloc));
         }
         let reading = reading_of(alloc, sent, reply)?;
-        let reaction = self.on_reading(alloc, spare, scenario, &reading);
+        let reaction = self.on_reading(spare, scenario, &reading);
         drop(reading);
         reaction
     }
@@ -63,7 +62,6 @@ impl Coordinator {
     /// The master was read: after a query, after the votes, or after the replies of a round.
     fn on_reading(
         &mut self,
-        alloc: Global,
         spare: &mut Spare<Letter>,
         scenario: &Scenario,
         reading: &Reading,
@@ -75,23 +73,16 @@ impl Coordinator {
         match &self.phase {
             Phase::Probing { query } => {
                 let at = Point::Read { query: *query };
-                self.proofs_read(alloc, spare, scenario, at, reading)
+                self.proofs_read(spare, scenario, at, reading)
             }
-            Phase::VoteProbing => self.proofs_read(
-                alloc,
-                spare,
-                scenario,
-                Point::VoteRead,
-                reading,
-            ),
-            _ => self.round_read(alloc, spare, scenario, reading),
+            Phase::VoteProbing => self.proofs_read(spare, scenario, Point::VoteRead, reading),
+            _ => self.round_read(spare, scenario, reading),
         }
     }
 
     /// The master was read after the replies of a round.
     fn round_read(
         &mut self,
-        alloc: Global,
         spare: &mut Spare<Letter>,
         scenario: &Scenario,
         reading: &Reading,
@@ -100,10 +91,11 @@ impl Coordinator {
             Gives (row.on_round_read scenario.now self.old self.old.phase reading.now)
             self.new reaction) }
     {
+        let alloc = spare.alloc();
         match &mut self.phase {
             Phase::Reading { span: _, round } => {
                 let answer = round.judge(alloc, Some(reading))?;
-                self.follows(alloc, spare, scenario, answer, Some(reading))
+                self.follows(spare, scenario, answer, Some(reading))
             }
             _ => Ok(ignored(alloc)),
         }
@@ -113,7 +105,6 @@ impl Coordinator {
     /// and it goes on.
     fn proofs_read(
         &mut self,
-        alloc: Global,
         spare: &mut Spare<Letter>,
         scenario: &Scenario,
         at: Point,
@@ -122,6 +113,7 @@ impl Coordinator {
         ensures { IfOk result (λ reaction.
             Gives (row.on_proofs_read scenario.now self.old at reading.now) self.new reaction) }
     {
+        let alloc = spare.alloc();
         if let Some(why) = self.gathered.older(reading) {
             return self.aborts(alloc, why);
         }
@@ -129,7 +121,7 @@ impl Coordinator {
             return Ok(ignored(alloc));
         };
         self.gathered.close(alloc, Some(reading.place))?;
-        self.makes(alloc, spare, scenario, at, next, 0)
+        self.makes(spare, scenario, at, next, 0)
     }
 }
 

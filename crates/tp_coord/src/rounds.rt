@@ -29,21 +29,19 @@ impl Coordinator {
     /// All queries ran: the first round at commit, of all of the transaction's servers.
     pub(crate) fn begins_rounds(
         &mut self,
-        alloc: Global,
         spare: &mut Spare<Letter>,
         scenario: &Scenario,
     ) -> Result<Reaction, NoMemory>
         ensures { IfOk result (λ reaction.
             Gives (row.asks self.old Span.Commit (row.commit_round scenario.now self.old)) self.new reaction) }
     {
-        let round = self.round_of(alloc, scenario, self.servers.as_slice())?;
-        self.asks(alloc, spare, Span::Commit, round)
+        let round = self.round_of(spare.alloc(), scenario, self.servers.as_slice())?;
+        self.asks(spare, Span::Commit, round)
     }
 
     /// A query ran, and all up to it are to be evaluated: the first round, of their servers.
     pub(crate) fn validates(
         &mut self,
-        alloc: Global,
         spare: &mut Spare<Letter>,
         scenario: &Scenario,
         query: u32,
@@ -54,9 +52,10 @@ impl Coordinator {
             (row.validation_round scenario.now self.old query))
             self.new reaction) }
     {
+        let alloc = spare.alloc();
         let servers = self.servers_upto(alloc, scenario, query)?;
         let round = self.round_of(alloc, scenario, servers.as_slice())?;
-        self.asks(alloc, spare, Span::Validate { query }, round)
+        self.asks(spare, Span::Validate { query }, round)
     }
 
     /// A first round of these servers.
@@ -98,20 +97,18 @@ impl Coordinator {
     /// Before each round the authority is asked.
     pub(crate) fn asks(
         &mut self,
-        alloc: Global,
         spare: &mut Spare<Letter>,
         span: Span,
         round: Round,
     ) -> Result<Reaction, NoMemory>
         ensures { IfOk result (λ reaction. Gives (row.asks self.old span round) self.new reaction) }
     {
-        self.asks_in(alloc, spare, Phase::Asking { span, round })
+        self.asks_in(spare, Phase::Asking { span, round })
     }
 
     /// The authority is asked, for what the phase awaits.
     pub(crate) fn asks_in(
         &mut self,
-        alloc: Global,
         spare: &mut Spare<Letter>,
         phase: Phase,
     ) -> Result<Reaction, NoMemory>
@@ -119,7 +116,7 @@ impl Coordinator {
     {
         let letter = self.ask_letter(self.next_turn());
         self.awaits(phase);
-        sent_alone(alloc, spare, letter)
+        sent_alone(spare, letter)
     }
 
     pub(crate) fn ask_letter(&self, turn: u32) -> Letter
@@ -200,7 +197,6 @@ impl Coordinator {
 
     pub(crate) fn on_tell(
         &mut self,
-        alloc: Global,
         spare: &mut Spare<Letter>,
         scenario: &Scenario,
         sent: Place,
@@ -209,12 +205,13 @@ impl Coordinator {
         ensures { IfOk result (λ reaction.
             Gives (row.on_tell scenario.now self.old self.old.phase sent tell.now) self.new reaction) }
     {
+        let alloc = spare.alloc();
         if tell.turn != self.turn {
             return Ok(ignored(alloc));
         }
         if let Phase::Stapling { query } = self.phase {
             let staple = staple_of(alloc, sent, tell)?;
-            return self.sends_next(alloc, spare, scenario, query, Some(staple));
+            return self.sends_next(spare, scenario, query, Some(staple));
         }
         match mem::replace(&mut self.phase, Phase::Idle) {
             Phase::Asking { span, round } => {
@@ -254,34 +251,30 @@ impl Coordinator {
     /// round is judged.
     pub(crate) fn counted(
         &mut self,
-        alloc: Global,
         spare: &mut Spare<Letter>,
         scenario: &Scenario,
     ) -> Result<Reaction, NoMemory>
         ensures { IfOk result (λ reaction.
             Gives (place.on_counted scenario.now self.old self.old.phase) self.new reaction) }
     {
+        let alloc = spare.alloc();
         match &mut self.phase {
             Phase::Checking { round, .. } => {
                 if round.awaits_any() {
                     return Ok(nothing(alloc));
                 }
                 if round.reads {
-                    return self.reads_after(alloc, spare);
+                    return self.reads_after(spare);
                 }
                 let answer = round.judge(alloc, None)?;
-                self.follows(alloc, spare, scenario, answer, None)
+                self.follows(spare, scenario, answer, None)
             }
             _ => Ok(ignored(alloc)),
         }
     }
 
     /// All of a round have replied: the master is asked.
-    fn reads_after(
-        &mut self,
-        alloc: Global,
-        spare: &mut Spare<Letter>,
-    ) -> Result<Reaction, NoMemory>
+    fn reads_after(&mut self, spare: &mut Spare<Letter>) -> Result<Reaction, NoMemory>
         ensures { IfOk result (λ reaction.
             Gives (place.reads_after self.old self.old.phase) self.new reaction) }
     {
@@ -290,10 +283,10 @@ impl Coordinator {
                 span,
                 round,
                 staple: _,
-            } => self.probes(alloc, spare, Phase::Reading { span, round }),
+            } => self.probes(spare, Phase::Reading { span, round }),
             other => {
                 self.enters(other);
-                Ok(ignored(alloc))
+                Ok(ignored(spare.alloc()))
             }
         }
     }
@@ -301,7 +294,6 @@ impl Coordinator {
     /// What follows from what was judged of the round that is awaited.
     pub(crate) fn follows(
         &mut self,
-        alloc: Global,
         spare: &mut Spare<Letter>,
         scenario: &Scenario,
         answer: Judged,
@@ -312,17 +304,18 @@ impl Coordinator {
             (place.follows scenario.now self.old (option_copied reading.entry) answer)
             self.new reaction) }
     {
+        let alloc = spare.alloc();
         match answer {
             Judged::Waiting => Ok(nothing(alloc)),
             Judged::Spent(mets) => self.aborts(alloc, Cause::Rounds(mets)),
-            Judged::Update(_) => self.asks_anew(alloc, spare),
+            Judged::Update(_) => self.asks_anew(spare),
             Judged::False { verdict } => self.aborts(alloc, Cause::Denied(denied_by(&verdict))),
-            Judged::AllTrue => self.agrees(alloc, spare, scenario, reading),
+            Judged::AllTrue => self.agrees(spare, scenario, reading),
         }
     }
 
     /// An update has begun the next round: the authority is asked anew.
-    fn asks_anew(&mut self, alloc: Global, spare: &mut Spare<Letter>) -> Result<Reaction, NoMemory>
+    fn asks_anew(&mut self, spare: &mut Spare<Letter>) -> Result<Reaction, NoMemory>
         ensures { IfOk result (λ reaction.
             Gives (place.asks_anew self.old self.old.phase) self.new reaction) }
     {
@@ -331,11 +324,11 @@ impl Coordinator {
                 span,
                 round,
                 staple: _,
-            } => self.asks(alloc, spare, span, round),
-            Phase::Reading { span, round } => self.asks(alloc, spare, span, round),
+            } => self.asks(spare, span, round),
+            Phase::Reading { span, round } => self.asks(spare, span, round),
             other => {
                 self.enters(other);
-                Ok(ignored(alloc))
+                Ok(ignored(spare.alloc()))
             }
         }
     }
@@ -344,7 +337,6 @@ impl Coordinator {
     /// proofs are taken out of the round, which is over.
     fn agrees(
         &mut self,
-        alloc: Global,
         spare: &mut Spare<Letter>,
         scenario: &Scenario,
         reading: Option<&Reading>,
@@ -354,6 +346,7 @@ impl Coordinator {
             (place.agrees_in scenario.now self.old self.old.phase (option_copied reading.entry))
             self.new reaction) }
     {
+        let alloc = spare.alloc();
         let Some((span, rounds)) = span_in(&self.phase) else {
             return Ok(ignored(alloc));
         };
@@ -362,7 +355,7 @@ impl Coordinator {
             return Ok(ignored(alloc));
         };
         self.closes_round(alloc, reading)?;
-        self.makes(alloc, spare, scenario, at, next, rounds)
+        self.makes(spare, scenario, at, next, rounds)
     }
 
     /// The proofs of the round that is awaited are taken out of it, and are an instance.

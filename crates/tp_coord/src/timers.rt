@@ -5,7 +5,6 @@ ghost use Rattle.tp_types.specs.Effect.{Gives};
 ghost use Rattle.tp_coord.specs.Row as row;
 
 use crate::coordinator::{Coordinator, Phase};
-use std::alloc::Global;
 use tp_types::{Letter, List, NoMemory, Reaction, Scenario, Spare, Staple};
 
 impl Coordinator {
@@ -13,7 +12,6 @@ impl Coordinator {
     /// have acknowledged the end, nothing is sent.
     pub fn timer(
         &self,
-        alloc: Global,
         spare: &mut Spare<Letter>,
         scenario: &Scenario,
     ) -> Result<Reaction, NoMemory>
@@ -22,27 +20,25 @@ impl Coordinator {
     {
         Ok(Reaction {
             append: None,
-            letters: self.repeats(alloc, spare, scenario)?,
+            letters: self.repeats(spare, scenario)?,
         })
     }
 
     fn repeats(
         &self,
-        alloc: Global,
         spare: &mut Spare<Letter>,
         scenario: &Scenario,
     ) -> Result<List<Letter>, NoMemory>
         ensures { IfOk result (λ letters.
             letters ≡ row.repeats scenario.now self.now self.now.phase) }
     {
+        let alloc = spare.alloc();
         match &self.phase {
             // nothing is outstanding before the submission
             Phase::Idle => Ok(List::new(alloc)),
-            Phase::Querying { query, staple } => self.query_again(
-                alloc, spare, scenario, *query, staple,
-            ),
+            Phase::Querying { query, staple } => self.query_again(spare, scenario, *query, staple),
             Phase::Stapling { .. } | Phase::Asking { .. } => {
-                spare.list_of(alloc, self.ask_letter(self.turn))
+                spare.list_of(self.ask_letter(self.turn))
             }
             Phase::Checking {
                 span,
@@ -50,7 +46,7 @@ impl Coordinator {
                 staple,
             } => self.round_letters(alloc, *span, self.turn, round, staple),
             Phase::Probing { .. } | Phase::Reading { .. } | Phase::VoteProbing => {
-                spare.list_of(alloc, self.probe_letter(self.turn))
+                spare.list_of(self.probe_letter(self.turn))
             }
             Phase::Voting { awaited } => self.vote_letters(alloc, self.turn, awaited.as_slice()),
             Phase::Ending { outcome, awaited } => {
@@ -61,7 +57,6 @@ impl Coordinator {
 
     fn query_again(
         &self,
-        alloc: Global,
         spare: &mut Spare<Letter>,
         scenario: &Scenario,
         number: u32,
@@ -72,11 +67,12 @@ impl Coordinator {
             ≡ row.query_again scenario.now self.now number staple.now
             (row.home_of scenario.now self.now number)) }
     {
+        let alloc = spare.alloc();
         match self.home_of(scenario, number) {
             None => Ok(List::new(alloc)),
             Some(server) => {
                 let letter = self.query_letter(alloc, scenario, self.turn, server, number, staple)?;
-                spare.list_of(alloc, letter)
+                spare.list_of(letter)
             }
         }
     }

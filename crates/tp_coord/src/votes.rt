@@ -61,7 +61,6 @@ impl Coordinator {
 
     pub(crate) fn on_vote(
         &mut self,
-        alloc: Global,
         spare: &mut Spare<Letter>,
         scenario: &Scenario,
         from: Actor,
@@ -71,6 +70,7 @@ impl Coordinator {
             Gives (row.on_vote scenario.now self.old self.old.phase from reply.now)
             self.new reaction) }
     {
+        let alloc = spare.alloc();
         let Actor::Server(server) = from else {
             return Ok(ignored(alloc));
         };
@@ -78,7 +78,7 @@ impl Coordinator {
             return Ok(ignored(alloc));
         }
         match &reply.vote {
-            Vote::Yes(verdicts) => self.on_yes(alloc, spare, scenario, server, verdicts),
+            Vote::Yes(verdicts) => self.on_yes(spare, scenario, server, verdicts),
             Vote::No(why) => self.on_no(alloc, server, *why),
         }
     }
@@ -86,7 +86,6 @@ impl Coordinator {
     /// A vote YES of a server that is awaited comes into its round, or leaves others to be awaited.
     fn on_yes(
         &mut self,
-        alloc: Global,
         spare: &mut Spare<Letter>,
         scenario: &Scenario,
         server: ServerId,
@@ -97,6 +96,7 @@ impl Coordinator {
             (row.vote_at scenario.now self.old self.old.phase server (vote.Yes verdicts.now))
             self.new reaction) }
     {
+        let alloc = spare.alloc();
         match &mut self.phase {
             Phase::Checking {
                 span: Span::Commit,
@@ -104,11 +104,11 @@ impl Coordinator {
                 staple: _,
             } => {
                 counts(alloc, round, server, verdicts)?;
-                self.counted(alloc, spare, scenario)
+                self.counted(spare, scenario)
             }
             Phase::Voting { awaited } => {
                 let left = without(mem::replace(awaited, List::new(alloc)), server);
-                self.votes_left(alloc, spare, scenario, left)
+                self.votes_left(spare, scenario, left)
             }
             _ => Ok(ignored(alloc)),
         }
@@ -117,7 +117,6 @@ impl Coordinator {
     /// These servers are awaited; where none is, all have voted, and the transaction goes on.
     fn votes_left(
         &mut self,
-        alloc: Global,
         spare: &mut Spare<Letter>,
         scenario: &Scenario,
         awaited: List<ServerId>,
@@ -125,6 +124,7 @@ impl Coordinator {
         ensures { IfOk result (λ reaction.
             Gives (row.on_votes_left scenario.now self.old awaited) self.new reaction) }
     {
+        let alloc = spare.alloc();
         let have_voted = awaited.is_empty();
         self.enters(Phase::Voting { awaited });
         if !have_voted {
@@ -132,7 +132,7 @@ impl Coordinator {
         }
         match self.move_made(scenario, Point::Voted) {
             None => Ok(ignored(alloc)),
-            Some(next) => self.makes(alloc, spare, scenario, Point::Voted, next, 0),
+            Some(next) => self.makes(spare, scenario, Point::Voted, next, 0),
         }
     }
 
@@ -155,7 +155,6 @@ impl Coordinator {
 
     pub(crate) fn on_verdicts(
         &mut self,
-        alloc: Global,
         spare: &mut Spare<Letter>,
         scenario: &Scenario,
         from: Actor,
@@ -165,6 +164,7 @@ impl Coordinator {
             Gives (row.on_verdicts scenario.now self.old self.old.phase from reply.now)
             self.new reaction) }
     {
+        let alloc = spare.alloc();
         let Actor::Server(server) = from else {
             return Ok(ignored(alloc));
         };
@@ -173,14 +173,13 @@ impl Coordinator {
         }
         match &reply.verdicts {
             None => self.aborts(alloc, Cause::Restarted { server }),
-            Some(verdicts) => self.on_proofs(alloc, spare, scenario, server, verdicts),
+            Some(verdicts) => self.on_proofs(spare, scenario, server, verdicts),
         }
     }
 
     /// The verdicts of a server that is awaited come into its round.
     fn on_proofs(
         &mut self,
-        alloc: Global,
         spare: &mut Spare<Letter>,
         scenario: &Scenario,
         server: ServerId,
@@ -191,6 +190,7 @@ impl Coordinator {
             (row.verdicts_at scenario.now self.old self.old.phase server (Some verdicts.now))
             self.new reaction) }
     {
+        let alloc = spare.alloc();
         match &mut self.phase {
             Phase::Checking {
                 span: Span::Validate { .. },
@@ -198,7 +198,7 @@ impl Coordinator {
                 staple: _,
             } => {
                 counts(alloc, round, server, verdicts)?;
-                self.counted(alloc, spare, scenario)
+                self.counted(spare, scenario)
             }
             _ => Ok(ignored(alloc)),
         }

@@ -4,10 +4,6 @@ use Rattle.std.specs.Io.KnownBytes.{Consumes, Appends, IsAtEnd}
 use Rattle.tp_io.specs.declared.whole.ReadError.{ReadError}
 use Rattle.tp_io.specs.declared.whole.ReadError.TheVariants.{TooLong, Fault, NoMemory}
 
--- the most bytes of an input, 16 MiB
-abbrev pub input_max : ℕ
-input_max = 16777216
-
 -- some bytes were taken, at most so many
 pub record TakesAtMost (most : ℕ) (old new : Option (List ℕ)) : Type 0 where
   pub bytes : List ℕ
@@ -20,22 +16,23 @@ pub record TakesExactly (count : ℕ) (old new : Option (List ℕ)) : Type 0 whe
   pub consumed : Consumes old new bytes
   pub exact : length bytes ≡ count
 
--- one read: what it took stands behind the bytes from before, and it took nothing only at the end
-pub record Took (left left' : Option (List ℕ)) (bytes bytes' : List ℕ) (more : Bool) : Type 0 where
+-- one read: what it took stands behind the bytes from before, of which there are at most one more than an input may have, and it
+-- took nothing only at the end
+pub record Took (most : ℕ) (left left' : Option (List ℕ)) (bytes bytes' : List ℕ) (more : Bool) : Type 0 where
   pub piece : List ℕ
   pub appended : bytes' ≡ bytes ++ piece
   pub consumed : Consumes left left' piece
-  pub limit : length bytes' ≤ input_max + 1
+  pub limit : length bytes' ≤ most + 1
   pub longer : more ≡ true → length bytes < length bytes'
   pub ended : more ≡ false → (bytes' ≡ bytes) × IsAtEnd left'
 
--- where the input is told: Ok gives the whole of it, and TooLong comes only where it is too long
-abbrev pub ReadsAll : Option (List ℕ) → Result (List ℕ) ReadError → Type 0
-ReadsAll None result = ⊤
-ReadsAll (Some input) (Ok bytes) = (bytes ≡ input) × (length input ≤ input_max)
-ReadsAll (Some input) (Err TooLong) = input_max < length input
-ReadsAll (Some input) (Err Fault) = ⊤
-ReadsAll (Some input) (Err NoMemory) = ⊤
+-- where the input is told: Ok gives the whole of it, and TooLong comes only where it has more bytes than it may have
+abbrev pub ReadsAll : ℕ → Option (List ℕ) → Result (List ℕ) ReadError → Type 0
+ReadsAll most None result = ⊤
+ReadsAll most (Some input) (Ok bytes) = (bytes ≡ input) × (length input ≤ most)
+ReadsAll most (Some input) (Err TooLong) = most < length input
+ReadsAll most (Some input) (Err Fault) = ⊤
+ReadsAll most (Some input) (Err NoMemory) = ⊤
 
 -- a part of the text's front was appended, and not the whole text
 pub record AppendsFront (old new : Option (List ℕ)) (text : List ℕ) : Type 0 where

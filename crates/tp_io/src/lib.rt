@@ -10,8 +10,8 @@
 //! - A call fails only where the count of faults rose, and so does a write that takes nothing of a piece that
 //!   is not empty. A count never falls (`Source::read`: `cause`, `later`; `Sink::write`: `cause`, `none_taken`,
 //!   `later`)
-//! - Reading to the end gives all that was taken, at the input's end and within the limit (`read_to_end`:
-//!   `whole`)
+//! - Reading to the end gives all that was taken, at the input's end and within the limit that its caller gives
+//!   (`read_to_end`: `whole`)
 //! - It takes at most one byte more than the limit, whatever it answers, and TooLong means exactly that many
 //!   (`read_to_end`: `limit`, `too_long`)
 //! - Where the input tells its bytes, Ok is all of them, and TooLong comes only where they are too many
@@ -41,7 +41,7 @@ mod whole;
 pub use adapters::{ReadSource, StdNotes, StdSink, StdSource, WriteSink};
 pub use memory::{MemorySink, MemorySource};
 pub use steady::{SteadySink, SteadySource};
-pub use whole::{INPUT_MAX, ReadError, read_to_end, write_all};
+pub use whole::{ReadError, read_to_end, write_all};
 
 /// A read or a write failed. A call of a source has then taken nothing, and a call of a sink written
 /// nothing; of a whole text a front may have been written.

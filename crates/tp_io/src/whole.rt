@@ -2,14 +2,11 @@
 ghost use Rattle.std.specs.Prelude.{ℕ, ◌≡◌, ◌+◌, ◌-◌, ◌<◌, ◌≤◌, length, IfOk, OnOk, OnErr, IsErrOf};
 ghost use Rattle.std.specs.Io.KnownBytes.{Consumes, Appends, IsAtEnd};
 ghost use Rattle.tp_types.specs.Faults.{Rose};
-ghost use Rattle.tp_io.specs.Whole.{Took, TakesAtMost, TakesExactly, ReadsAll, AppendsFront, input_max};
+ghost use Rattle.tp_io.specs.Whole.{Took, TakesAtMost, TakesExactly, ReadsAll, AppendsFront};
 
 use crate::{Failed, Sink, Source};
 use std::alloc::{AllocError, Global};
 use tp_types::List;
-
-/// The most bytes of an input, 16 MiB.
-pub const INPUT_MAX: usize = 16_777_216;
 
 /// The most bytes that one read asks for.
 const PIECE_MAX: usize = 4096;
@@ -17,7 +14,7 @@ const PIECE_MAX: usize = 4096;
 /// Why an input was not read to its end.
 #[derive(Debug, Drop, PartialEq)]
 pub enum ReadError {
-    /// The input has more than `INPUT_MAX` bytes.
+    /// The input has more bytes than it may have.
     TooLong,
     /// The source failed.
     Fault,
@@ -47,12 +44,16 @@ impl From<AllocError> for ReadError {
     }
 }
 
-/// One read, appended to the bytes. The answer is whether there was something to read.
-fn read_piece<I: Source>(source: &mut I, bytes: &mut Vec<u8>) -> Result<bool, ReadError>
-    requires { length bytes.old.items ≤ input_max }
+/// One read, appended to the bytes, of which there may be so many. The answer is whether there was something to read.
+fn read_piece<I: Source>(
+    source: &mut I,
+    bytes: &mut Vec<u8>,
+    most: usize,
+) -> Result<bool, ReadError>
+    requires { length bytes.old.items ≤ most }
     ensures took { IfOk result
-        (Took (I.left source.old) (I.left source.new) bytes.old.items bytes.new.items) }
-    ensures limit { OnErr result (TakesAtMost (input_max + 1 - length bytes.old.items)
+        (Took most (I.left source.old) (I.left source.new) bytes.old.items bytes.new.items) }
+    ensures limit { OnErr result (TakesAtMost (most + 1 - length bytes.old.items)
         (I.left source.old) (I.left source.new)) }
     ensures fault { IsErrOf result ReadError.Fault
         → Rose (I.faults source.old) (I.faults source.new) }
@@ -60,7 +61,7 @@ fn read_piece<I: Source>(source: &mut I, bytes: &mut Vec<u8>) -> Result<bool, Re
     ensures not_long { IsErrOf result ReadError.TooLong → ⊥ }
 {
     let mut piece = [0; PIECE_MAX];
-    let room = INPUT_MAX + 1 - bytes.len();
+    let room = (most - bytes.len()).saturating_add(1);
     let (front, _) = piece.split_at_mut(room.min(PIECE_MAX));
     let count = source.read(front)?;
     let (read, _) = front.split_at(count);
@@ -68,22 +69,26 @@ fn read_piece<I: Source>(source: &mut I, bytes: &mut Vec<u8>) -> Result<bool, Re
     Ok(count > 0)
 }
 
-/// Reads an input to its end, or until it has more bytes than an input may have.
+/// Reads an input to its end, or until it has more bytes than `most`, which it may have.
 #[tactic(auto, using(crate::proofs::Laws::takes_on))]
-pub fn read_to_end<I: Source>(alloc: Global, source: &mut I) -> Result<List<u8>, ReadError>
+pub fn read_to_end<I: Source>(
+    alloc: Global,
+    source: &mut I,
+    most: usize,
+) -> Result<List<u8>, ReadError>
     ensures whole { IfOk result (λ bytes. Consumes (I.left source.old) (I.left source.new) bytes
-        × IsAtEnd (I.left source.new) × (length bytes ≤ input_max)) }
+        × IsAtEnd (I.left source.new) × (length bytes ≤ most)) }
     ensures too_long { IsErrOf result ReadError.TooLong
-        → TakesExactly (input_max + 1) (I.left source.old) (I.left source.new) }
-    ensures limit { TakesAtMost (input_max + 1) (I.left source.old) (I.left source.new) }
+        → TakesExactly (most + 1) (I.left source.old) (I.left source.new) }
+    ensures limit { TakesAtMost (most + 1) (I.left source.old) (I.left source.new) }
     ensures fault { IsErrOf result ReadError.Fault
         → Rose (I.faults source.old) (I.faults source.new) }
     ensures later { I.faults source.old ≤ I.faults source.new }
-    ensures all { ReadsAll (I.left source.old) result }
+    ensures all { ReadsAll most (I.left source.old) result }
 {
     let mut bytes = Vec::new(alloc);
-    while bytes.len() <= INPUT_MAX {
-        if !read_piece(source, &mut bytes)? {
+    while bytes.len() <= most {
+        if !read_piece(source, &mut bytes, most)? {
             return Ok(List::from_vec(bytes));
         }
     }

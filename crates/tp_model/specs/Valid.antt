@@ -214,9 +214,9 @@ may_crash sc _ = false
 abbrev pub is_number : ℕ → Bool
 is_number number = nat_lt number (10 ^ 15)
 
--- an append has four device calls
+-- an append has four device calls, and the fill is a byte
 abbrev pub is_valid_cut : Cut → Bool
-is_valid_cut cut = is_number cut.mail && nat_le cut.calls calls_limit
+is_valid_cut cut = is_number cut.mail && nat_le cut.calls calls_limit && nat_le cut.fill 255
 
 abbrev pub is_valid_step : Scenario → Step → Bool
 is_valid_step sc (step.Submit txn) = is_txn sc txn

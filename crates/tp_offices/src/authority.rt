@@ -51,27 +51,17 @@ impl Authority {
     }
 
     /// What the authority does on receipt of a mail. Its state stays.
-    pub fn receive(
-        &self,
-        alloc: Global,
-        spare: &mut Spare<Letter>,
-        mail: &Mail,
-    ) -> Result<Reaction, NoMemory>
+    pub fn receive(&self, spare: &mut Spare<Letter>, mail: &Mail) -> Result<Reaction, NoMemory>
         ensures { IfOk result (λ reaction.
             Gives (office.authority_row self.now mail.now) self.now reaction) }
     {
         match &mail.letter.body {
-            Body::Ask(request) => self.tells(alloc, spare, *request),
-            _ => Ok(ignored(alloc)),
+            Body::Ask(request) => self.tells(spare, *request),
+            _ => Ok(ignored(spare.alloc())),
         }
     }
 
-    fn tells(
-        &self,
-        alloc: Global,
-        spare: &mut Spare<Letter>,
-        request: AskRequest,
-    ) -> Result<Reaction, NoMemory>
+    fn tells(&self, spare: &mut Spare<Letter>, request: AskRequest) -> Result<Reaction, NoMemory>
         ensures { IfOk result (λ reaction.
             Gives (office.tells self.now request) self.now reaction) }
     {
@@ -79,14 +69,14 @@ impl Authority {
             txn: request.txn,
             turn: request.turn,
             clock: self.clock,
-            revoked: revocations(alloc, self.revoked.as_slice())?,
+            revoked: revocations(spare.alloc(), self.revoked.as_slice())?,
         };
         let letter = Letter {
             from: Actor::Authority,
             to: Actor::Coordinator(request.txn),
             body: Body::Tell(told),
         };
-        sent_alone(alloc, spare, letter)
+        sent_alone(spare, letter)
     }
 }
 

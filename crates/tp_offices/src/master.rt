@@ -62,7 +62,6 @@ impl Master {
     /// Sends the newest version of an administrator's policy to a server.
     pub fn push(
         &self,
-        alloc: Global,
         spare: &mut Spare<Letter>,
         admin: AdminId,
         server: ServerId,
@@ -78,45 +77,35 @@ impl Master {
                 version: version_in(&self.newest, admin),
             }),
         };
-        sent_alone(alloc, spare, letter)
+        sent_alone(spare, letter)
     }
 
     /// What the master does on receipt of a mail. Its state stays.
-    pub fn receive(
-        &self,
-        alloc: Global,
-        spare: &mut Spare<Letter>,
-        mail: &Mail,
-    ) -> Result<Reaction, NoMemory>
+    pub fn receive(&self, spare: &mut Spare<Letter>, mail: &Mail) -> Result<Reaction, NoMemory>
         ensures { IfOk result (λ reaction.
             Gives (office.master_row self.now mail.now) self.now reaction) }
     {
         match &mail.letter.body {
-            Body::Probe(request) => self.tells(alloc, spare, *request),
-            _ => Ok(ignored(alloc)),
+            Body::Probe(request) => self.tells(spare, *request),
+            _ => Ok(ignored(spare.alloc())),
         }
     }
 
-    fn tells(
-        &self,
-        alloc: Global,
-        spare: &mut Spare<Letter>,
-        request: ProbeRequest,
-    ) -> Result<Reaction, NoMemory>
+    fn tells(&self, spare: &mut Spare<Letter>, request: ProbeRequest) -> Result<Reaction, NoMemory>
         ensures { IfOk result (λ reaction.
             Gives (office.tells self.now request) self.now reaction) }
     {
         let told = NewestReply {
             txn: request.txn,
             turn: request.turn,
-            newest: self.newest.try_clone(alloc)?,
+            newest: self.newest.try_clone(spare.alloc())?,
         };
         let letter = Letter {
             from: Actor::Master,
             to: Actor::Coordinator(request.txn),
             body: Body::Newest(told),
         };
-        sent_alone(alloc, spare, letter)
+        sent_alone(spare, letter)
     }
 }
 

@@ -10,17 +10,20 @@ use tp_types::List;
 
 const TEXT: &[u8] = b"0123456789";
 
+/// The most bytes of an input.
+const INPUT_MAX: usize = 16_777_216;
+
 /// Whether a source is read to its end, and gave these bytes.
 fn gives(rt: &impl AllocGlobal, source: &mut impl Source, wanted: &[u8]) -> bool {
-    match read_to_end(rt.alloc(), source) {
+    match read_to_end(rt.alloc(), source, INPUT_MAX) {
         Ok(bytes) => bytes.as_slice() == wanted,
         Err(_error) => false,
     }
 }
 
-/// How many bytes a source gives to its end, or how it fails.
-fn read(rt: &impl AllocGlobal, source: &mut impl Source) -> Result<usize, ReadError> {
-    match read_to_end(rt.alloc(), source) {
+/// How many bytes a source gives to its end, of which it may have at most `most`, or how it fails.
+fn read(rt: &impl AllocGlobal, source: &mut impl Source, most: usize) -> Result<usize, ReadError> {
+    match read_to_end(rt.alloc(), source, most) {
         Ok(bytes) => Ok(bytes.len()),
         Err(error) => Err(error),
     }
@@ -31,7 +34,7 @@ fn goes_on(rt: &(impl Abort + AllocGlobal), fails: u64, back: &[u8]) -> bool {
     let text = Vec::from_slice(rt.alloc(), TEXT).expect(rt, "memory for a text");
     let calls = List::of_one(rt.alloc(), fails).expect(rt, "memory for calls");
     let mut source = MemorySource::new(List::from_vec(text), calls, 3);
-    read(rt, &mut source) == Err(ReadError::Fault) && gives(rt, &mut source, back)
+    read(rt, &mut source, INPUT_MAX) == Err(ReadError::Fault) && gives(rt, &mut source, back)
 }
 
 /// Whether a sink whose calls take three bytes, and of which one call fails, keeps these, and all where it is the fifth.
@@ -52,22 +55,25 @@ fn a_call_that_fails_loses_nothing(rt: HostRuntime) {
     }
 }
 
-/// What a source of so many bytes gives, and then what is left.
+/// What a source of so many bytes gives, of which it may have at most `most`, and then what is left.
 fn read_twice(
     rt: &(impl Abort + AllocGlobal),
     count: usize,
+    most: usize,
 ) -> (Result<usize, ReadError>, Result<usize, ReadError>) {
     let bytes = vec![in rt.alloc(); b'x'; count].expect(rt, "memory for bytes");
     let mut source = SteadySource::new(List::from_vec(bytes));
-    let first = read(rt, &mut source);
-    (first, read(rt, &mut source))
+    let first = read(rt, &mut source, most);
+    (first, read(rt, &mut source, most))
 }
 
-// An input has at most 16 MiB. One that has more is read up to its first byte that is too much.
+// An input of a scenario has at most 16 MiB. One that has more than it may is read up to its first byte that is too much.
 #[test]
 fn an_input_may_be_too_long(rt: HostRuntime) {
-    assert!(rt; read_twice(&rt, 16_777_216) == (Ok(16_777_216), Ok(0)));
-    assert!(rt; read_twice(&rt, 16_777_219) == (Err(ReadError::TooLong), Ok(2)));
+    assert!(rt; read_twice(&rt, INPUT_MAX, INPUT_MAX) == (Ok(16_777_216), Ok(0)));
+    assert!(rt; read_twice(&rt, INPUT_MAX + 3, INPUT_MAX) == (Err(ReadError::TooLong), Ok(2)));
+    assert!(rt; read_twice(&rt, 5_003, 5_000) == (Err(ReadError::TooLong), Ok(2)));
+    assert!(rt; read_twice(&rt, 1, 0) == (Err(ReadError::TooLong), Ok(0)));
 }
 
 /// A reader that fails at its first call and has no bytes.
@@ -91,7 +97,7 @@ fn a_reader_that_fails_in_mid_stream(rt: HostRuntime) {
     let (front, back) = TEXT.split_at(4);
     let broken = front.chain(Breaks { is_broken: false }).chain(back);
     let mut source = ReadSource::new(broken);
-    assert!(rt; read(&rt, &mut source) == Err(ReadError::Fault));
+    assert!(rt; read(&rt, &mut source, INPUT_MAX) == Err(ReadError::Fault));
     assert!(rt; gives(&rt, &mut source, back));
 }
 

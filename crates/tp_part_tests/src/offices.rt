@@ -98,7 +98,7 @@ fn plays(rt: &impl AllocGlobal, authority: &mut Authority, act: &Act) -> bool {
         Act::Tells(clock, revoked) => {
             let asked = mail(Actor::Authority, Body::Ask(ASKED));
             is_told(
-                authority.receive(rt.alloc(), &mut Spare::new(rt.alloc()), &asked),
+                authority.receive(&mut Spare::new(rt.alloc()), &asked),
                 *clock,
                 *revoked,
             )
@@ -116,7 +116,7 @@ fn tells_the_clock_and_the_revocations_in_order(rt: HostRuntime) {
         assert_case(&rt, at, plays(&rt, &mut authority, act));
     }
     let probed = mail(Actor::Master, Body::Probe(PROBED));
-    let ignores = is_nothing(authority.receive(rt.alloc(), &mut Spare::new(rt.alloc()), &probed));
+    let ignores = is_nothing(authority.receive(&mut Spare::new(rt.alloc()), &probed));
     drop(probed);
     drop(authority);
     assert!(rt; ignores);
@@ -175,26 +175,21 @@ fn publishes_up_to_the_last_version(rt: HostRuntime) {
     let mut master = opened.expect(&rt, "memory for a master");
     let probed = mail(Actor::Master, Body::Probe(PROBED));
     let opens = is_newest(
-        master.receive(rt.alloc(), &mut Spare::new(rt.alloc()), &probed),
+        master.receive(&mut Spare::new(rt.alloc()), &probed),
         &[Version(3), Version(1)],
     );
     let publishes = publishes(&mut master);
     let tells = is_newest(
-        master.receive(rt.alloc(), &mut Spare::new(rt.alloc()), &probed),
+        master.receive(&mut Spare::new(rt.alloc()), &probed),
         &[Version(5), Version(1)],
     );
     drop(probed);
     let pushes = is_pushed(
-        master.push(
-            rt.alloc(),
-            &mut Spare::new(rt.alloc()),
-            AdminId(0),
-            ServerId(1),
-        ),
+        master.push(&mut Spare::new(rt.alloc()), AdminId(0), ServerId(1)),
         Version(5),
     );
     let asked = mail(Actor::Authority, Body::Ask(ASKED));
-    let ignores = is_nothing(master.receive(rt.alloc(), &mut Spare::new(rt.alloc()), &asked));
+    let ignores = is_nothing(master.receive(&mut Spare::new(rt.alloc()), &asked));
     drop(asked);
     drop(master);
     assert!(rt; opens && publishes && tells && pushes && ignores);

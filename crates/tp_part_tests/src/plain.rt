@@ -45,9 +45,7 @@ fn lists_hold_their_members(rt: HostRuntime) {
 
 /// A list of one member, whose memory is kept.
 fn is_made(rt: &(impl Abort + AllocGlobal), spare: &mut Spare<i128>, member: i128) -> bool {
-    let made = spare
-        .list_of(rt.alloc(), member)
-        .expect(rt, "memory for a list");
+    let made = spare.list_of(member).expect(rt, "memory for a list");
     let holds = has(&made, &[member]);
     spare.keep(made);
     holds
@@ -60,7 +58,7 @@ fn lists_follow_one_another_in_spare_memory(rt: HostRuntime) {
     let second = is_made(&rt, &mut spare, 8);
     spare.keep(three(&rt));
     let third = is_made(&rt, &mut spare, 9);
-    let room = spare.room(rt.alloc(), 5).expect(&rt, "memory for five");
+    let room = spare.room(5).expect(&rt, "memory for five");
     assert!(rt; first && second && third);
     assert!(rt; room.is_empty() && room.capacity() >= 5);
 }

@@ -1,5 +1,5 @@
 -- The ring of the nodes of pending numbers, through what calls do to it.
-use Rattle.std.proofs.Common.{◌≡◌, ℕ, zero, suc, ◌+◌, ◌-◌, ◌<◌, ◌≤◌, Bool, List, [], ◌∷◌, ◌++◌, length, map, get_or, slice_get, slice_set, take, true, false, Some, None, Option, option_map, unwrap_or, refl, subst, sym, ◌∙◌, ap, arith}
+use Rattle.std.proofs.Common.{◌≡◌, ℕ, zero, suc, ◌+◌, ◌-◌, ◌<◌, ◌≤◌, Bool, List, [], ◌∷◌, ◌++◌, length, map, get_or, slice_get, slice_set, take, true, false, Some, None, Option, unwrap_or, refl, subst, sym, ◌∙◌, ap, arith}
 use Rattle.std.proofs.lemmas.List.{length-append, length-set, length-map}
 use Rattle.tp_pending.proofs.FlagLemmas.{marked-last, marked-more, marked-next, splits}
 use Rattle.tp_pending.proofs.LinkLemmas.{AllBefore, Apart, Misses, ahead_posted, ahead_without, back_cut, back_posted, back_without, before_is, ends_apart, first_of, last_is, last_of, leads_cut, marked_before, next_is}

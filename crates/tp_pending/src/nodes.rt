@@ -1,5 +1,5 @@
 //! Nodes, and the links of a ring of nodes whose end is node 0.
-ghost use Rattle.std.specs.Prelude.{[], ◌∷◌, ◌≡◌, ◌+◌, ◌≤◌, ◌++◌, length};
+ghost use Rattle.std.specs.Prelude.{[], ◌∷◌, ◌≡◌, ◌+◌, ◌++◌, length};
 ghost use Rattle.tp_pending.specs.mirrors.Ring as mirror;
 
 use tp_types::{List, Tally};
@@ -24,10 +24,10 @@ pub(crate) fn end_alone() -> Node
     }
 }
 
-/// The node at a place. Links are read by this alone, and each node that is read is a step.
+/// The node at a place. Links are read by this alone, and each node that is read is one step.
 pub(crate) fn visited<T: Tally>(nodes: &List<Node>, at: usize, tally: &mut T) -> Node
     ensures value { result ≡ mirror.node_at nodes.now at }
-    ensures counted { T.counted tally.new ≤ T.counted tally.old + 1 }
+    ensures counted { T.counted tally.new ≡ T.counted tally.old + T.weight }
 {
     tally.step();
     match nodes.get(at) {

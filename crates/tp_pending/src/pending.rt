@@ -56,11 +56,11 @@ impl Pending {
         }
     }
 
-    /// The least number that is pending, or None exactly where there is none. It visits at most one node.
+    /// The least number that is pending, or None exactly where there is none. It visits one node.
     pub fn first<T: Tally>(&self, tally: &mut T) -> Option<usize>
         ensures value { result ≡ slice_get (marked 0 self.now) 0 }
         ensures posted { IfSome result (λ number. number < length self.now) }
-        ensures counted { T.counted tally.new ≤ T.counted tally.old + 1 }
+        ensures counted { T.counted tally.new ≡ T.counted tally.old + T.weight }
     {
         let node = visited(&self.nodes, 0, tally).after;
         if node == 0 { None } else { Some(node - 1) }

@@ -139,6 +139,11 @@ spent_out false true spent mets given wanted first e = refl
 spent_out false false spent mets given wanted None e = cc
 spent_out false false spent mets given wanted (Some verdict) e = cc
 
+spent_whole : (waits out spent : Bool) (mets given : List Met) (wanted : List Wanted) (first : Option Verdict)
+    → cond waits Waiting (cond out (cond spent (Spent mets) (Update wanted)) (final_answer first)) ≡ Spent given → waits ≡ false
+spent_whole true out spent mets given wanted first e = absurd (cc)
+spent_whole false out spent mets given wanted first e = refl
+
 spent_by : (waits out spent : Bool) (mets : List Met) (wanted : List Wanted) (first : Option Verdict) → waits ≡ false → out ≡ true → spent ≡ true
     → cond waits Waiting (cond out (cond spent (Spent mets) (Update wanted)) (final_answer first)) ≡ Spent mets
 spent_by waits out spent mets wanted first w o s = rw w (rw o (rw s refl))
@@ -155,6 +160,7 @@ spent_last round reading above h =
       spent = λ mets e.
           let all = spent_has_all_mets round reading mets e in
           let count : length mets ≡ length round.mets + 1 = ap length all.all ∙ one_more round all.met in (
+            spent_whole (is_waiting round reading) out (is_spent round met) (mets_in round met) mets (wants_of (aim_in round reading) round.targets) (least_false (proofs_in round.targets)) e,
             sym (any_outdated_is round reading)
                 ∙ spent_out (is_waiting round reading) out (is_spent round met) (mets_in round met) mets (wants_of (aim_in round reading) round.targets) (least_false (proofs_in round.targets)) e,
             omega (arith, count, all.count, h.met.counted),

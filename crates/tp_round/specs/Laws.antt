@@ -311,7 +311,8 @@ MeetsInEachRound =
 -- the rounds are spent exactly where nothing is missing, a server is out of date, and this is the last round that may be
 pub record IsSpentAtLimit (round : Round) (reading : Option Reading) : Type 0 where
   pub spent : (mets : List Met) → judge round reading ≡ Spent mets
-      → (list_any (is_behind round reading) round.targets ≡ true) × (round.number ≡ round.limit)
+      → (is_waiting round reading ≡ false)
+      × (list_any (is_behind round reading) round.targets ≡ true) × (round.number ≡ round.limit)
   pub last : is_waiting round reading ≡ false
       → list_any (is_behind round reading) round.targets ≡ true → round.number ≡ round.limit
       → (mets : List Met) × (judge round reading ≡ Spent mets)

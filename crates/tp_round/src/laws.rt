@@ -54,8 +54,8 @@ pub fn rounds_are_counted()
 {}
 
 /// Where besides every verdict that is replied is of an administrator under global consistency, each round before the present one
-/// met a newer version: its number is one more than the rounds that were met, and the rounds are spent exactly where a
-/// server is out of date and the round is the last that may be.
+/// met a newer version: its number is one more than the rounds that were met, and the rounds are spent exactly where no reply
+/// is missing, a server is out of date, and the round is the last that may be.
 pub fn global_rounds_are_met()
     ensures met { laws.MeetsInEachRound }
     ensures spent { laws.SpentAtTheLimit }

@@ -168,8 +168,9 @@ cut_valid sc path names name mail calls fill made of_sc small e = by_test (is_cu
     by_test : (b : Bool) → is_cut calls fill ≡ b → (if b then cut_step path names name mail calls fill else Err (range path)) ≡ Ok made → is_valid_step sc made ≡ true
     by_test true fits h =
         let who = then_ok _ _ _ h in
+        let both = and_parts _ _ fits in
         subst (λ (s : Step). is_valid_step sc s ≡ true) (ok_same _ made who.2)
-        (and_from _ _ (actor_kept sc path names name who.0 of_sc who.1) (and_from _ _ small (and_parts _ _ fits).0))
+        (and_from _ _ (actor_kept sc path names name who.0 of_sc who.1) (and_from _ _ (and_from _ _ small both.0) both.1))
     by_test false fits h = absurd (cc)
 
 pub step_for_kept : (sc : Scenario) (path : Path) (names : Declared) (command : Command) (made : Step) → IsNamesOf sc names → IsCommandWell command → step_for path names command ≡ Ok made

@@ -22,7 +22,7 @@ use tp_policy_text::ParseError;
 use tp_types::{NoMemory, Scenario, Text};
 
 /// The most bytes of a scenario: 16 MiB.
-const LENGTH_MAX: usize = 16_777_216;
+pub const LENGTH_MAX: usize = 16_777_216;
 
 /// Why bytes are refused as a scenario. A path is `$`, then `.key` and `[index]`.
 #[derive(Drop)]

@@ -39,5 +39,5 @@ mod whole;
 mod words;
 
 pub use fault::{Fault, Kind};
-pub use from_bytes::{ScenarioError, read, reading_is_exact, texts_have_one_reading};
+pub use from_bytes::{LENGTH_MAX, ScenarioError, read, reading_is_exact, texts_have_one_reading};
 pub use path::{Key, Path, Site};

@@ -6,7 +6,6 @@ ghost use Rattle.tp_server.specs.Row as row;
 ghost use Rattle.tp_server.specs.Verdicts.{HasFewRules};
 
 use crate::server::Server;
-use std::alloc::Global;
 use tp_lock::LockTable;
 use tp_types::{
     AckReply, Body, DecideRequest, Letter, List, NoMemory, Outcome, Reaction, Record, Scenario,
@@ -16,7 +15,6 @@ use tp_types::{
 impl<L: LockTable + Drop> Server<L> {
     pub(crate) fn on_decide(
         &mut self,
-        alloc: Global,
         spare: &mut Spare<Letter>,
         scenario: &Scenario,
         request: DecideRequest,
@@ -26,7 +24,7 @@ impl<L: LockTable + Drop> Server<L> {
             Gives (row.on_decide scenario.now self.old request) self.new reaction) }
     {
         if !self.is_open(request.txn) {
-            return self.on_settled_decide(alloc, spare, request);
+            return self.on_settled_decide(spare, request);
         }
         let settled = Settled {
             txn: request.txn,
@@ -34,13 +32,12 @@ impl<L: LockTable + Drop> Server<L> {
             why: None,
         };
         let letter = self.ack_letter(request.txn);
-        self.ends(alloc, spare, scenario, settled, letter)
+        self.ends(spare, scenario, settled, letter)
     }
 
     /// An order to end what may be settled already.
     fn on_settled_decide(
         &self,
-        alloc: Global,
         spare: &mut Spare<Letter>,
         request: DecideRequest,
     ) -> Result<Reaction, NoMemory>
@@ -53,9 +50,9 @@ impl<L: LockTable + Drop> Server<L> {
         match self.settled.get(request.txn.0 as usize) {
             Some(_) => {
                 let letter = self.ack_letter(request.txn);
-                sent_alone(alloc, spare, letter)
+                sent_alone(spare, letter)
             }
-            None => Ok(ignored(alloc)),
+            None => Ok(ignored(spare.alloc())),
         }
     }
 
@@ -69,7 +66,6 @@ impl<L: LockTable + Drop> Server<L> {
     #[inline(always)]
     pub(crate) fn ends(
         &mut self,
-        alloc: Global,
         spare: &mut Spare<Letter>,
         scenario: &Scenario,
         settled: Settled,
@@ -79,12 +75,13 @@ impl<L: LockTable + Drop> Server<L> {
         ensures { IfOk result (λ reaction.
             Gives (row.ends scenario.now self.old settled letter) self.new reaction) }
     {
+        let alloc = spare.alloc();
         let at = settled.txn.0 as usize;
         self.end(settled.txn, settled.outcome);
         self.settled.put(at, settled)?;
         self.entries.clear(at);
         self.locks.release(settled.txn);
-        let mut letters = spare.list_of(alloc, letter)?;
+        let mut letters = spare.list_of(letter)?;
         while let Some(grant) = self.locks.take_granted() {
             self.resumes(alloc, scenario, grant.owner, &mut letters)?;
         }

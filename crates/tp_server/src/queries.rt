@@ -22,7 +22,6 @@ use tp_types::{
 impl<L: LockTable + Drop> Server<L> {
     pub(crate) fn on_query(
         &mut self,
-        alloc: Global,
         spare: &mut Spare<Letter>,
         scenario: &Scenario,
         sent: Place,
@@ -32,32 +31,32 @@ impl<L: LockTable + Drop> Server<L> {
         ensures { IfOk result (λ reaction.
             Gives (row.on_query scenario.now self.old sent request.now) self.new reaction) }
     {
+        let alloc = spare.alloc();
         if !self.is_open(request.txn) {
             return Ok(ignored(alloc));
         }
         let Some(entry) = self.entry_at(request.txn) else {
-            return self.on_first_query(alloc, spare, scenario, sent, request);
+            return self.on_first_query(spare, scenario, sent, request);
         };
         if entry.ballot.is_some() {
             return Ok(ignored(alloc));
         }
         if names_another_epoch(entry, request) {
-            return self.restarts(alloc, spare, request);
+            return self.restarts(spare, request);
         }
         if let Some(given) = answer_to(entry, request.query) {
             let given = given.try_clone(alloc)?;
-            return self.answers(alloc, spare, request.txn, given);
+            return self.answers(spare, request.txn, given);
         }
         if entry.waiting.is_some() {
             return Ok(ignored(alloc));
         }
-        self.asks(alloc, spare, scenario, sent, request)
+        self.asks(spare, scenario, sent, request)
     }
 
     /// A query of a transaction that has no entry.
     fn on_first_query(
         &mut self,
-        alloc: Global,
         spare: &mut Spare<Letter>,
         scenario: &Scenario,
         sent: Place,
@@ -70,15 +69,14 @@ impl<L: LockTable + Drop> Server<L> {
             self.new reaction) }
     {
         if request.epoch.is_some() {
-            return self.restarts(alloc, spare, request);
+            return self.restarts(spare, request);
         }
-        self.asks(alloc, spare, scenario, sent, request)
+        self.asks(spare, scenario, sent, request)
     }
 
     /// A query asks for the lock on its item.
     fn asks(
         &mut self,
-        alloc: Global,
         spare: &mut Spare<Letter>,
         scenario: &Scenario,
         sent: Place,
@@ -91,6 +89,7 @@ impl<L: LockTable + Drop> Server<L> {
             (entry_of self.old sent request.now))
             self.new reaction) }
     {
+        let alloc = spare.alloc();
         let Some(query) = asked_query(scenario, request) else {
             return Ok(ignored(alloc));
         };
@@ -105,13 +104,13 @@ impl<L: LockTable + Drop> Server<L> {
         match asked {
             Asked::Granted => {
                 let letter = self.runs(alloc, scenario, sent, request, query, value)?;
-                sent_alone(alloc, spare, letter)
+                sent_alone(spare, letter)
             }
             Asked::Waits => self.waits(alloc, sent, request),
             // an older transaction stands in the way
             Asked::Dies { other } => {
                 let letter = self.answers_with(alloc, sent, request, Answer::Died { other })?;
-                sent_alone(alloc, spare, letter)
+                sent_alone(spare, letter)
             }
         }
     }
@@ -421,7 +420,6 @@ impl<L: LockTable + Drop> Server<L> {
     /// What the transaction did here was lost in an earlier epoch.
     fn restarts(
         &self,
-        alloc: Global,
         spare: &mut Spare<Letter>,
         request: &QueryRequest,
     ) -> Result<Reaction, NoMemory>
@@ -429,12 +427,11 @@ impl<L: LockTable + Drop> Server<L> {
             Gives (row.restarts self.now request.now) self.now reaction) }
     {
         let restarted = reply_of(request, self.epoch, Answer::Restarted);
-        self.answers(alloc, spare, request.txn, restarted)
+        self.answers(spare, request.txn, restarted)
     }
 
     fn answers(
         &self,
-        alloc: Global,
         spare: &mut Spare<Letter>,
         txn: TxnId,
         given: DoneReply,
@@ -443,7 +440,7 @@ impl<L: LockTable + Drop> Server<L> {
             Gives (row.answers self.now txn given) self.now reaction) }
     {
         let letter = self.reply(txn, Body::Done(given));
-        sent_alone(alloc, spare, letter)
+        sent_alone(spare, letter)
     }
 }
 

@@ -98,7 +98,6 @@ impl<L: LockTable + Drop> Server<L> {
     /// What the server does on receipt of a mail. After NoMemory nothing is said of its state.
     pub fn receive(
         &mut self,
-        alloc: Global,
         spare: &mut Spare<Letter>,
         scenario: &Scenario,
         mail: &Mail,
@@ -107,12 +106,13 @@ impl<L: LockTable + Drop> Server<L> {
         ensures { IfOk result (λ reaction.
             Gives (row.server_row scenario.now self.old mail.now) self.new reaction) }
     {
+        let alloc = spare.alloc();
         match &mail.letter.body {
-            Body::Query(request) => self.on_query(alloc, spare, scenario, mail.sent, request),
-            Body::Prepare(request) => self.on_prepare(alloc, spare, scenario, request),
-            Body::Decide(request) => self.on_decide(alloc, spare, scenario, *request),
+            Body::Query(request) => self.on_query(spare, scenario, mail.sent, request),
+            Body::Prepare(request) => self.on_prepare(spare, scenario, request),
+            Body::Decide(request) => self.on_decide(spare, scenario, *request),
             Body::Push(push) => Ok(self.on_push(alloc, *push)),
-            Body::Validate(request) => self.on_validate(alloc, spare, scenario, request),
+            Body::Validate(request) => self.on_validate(spare, scenario, request),
             _ => Ok(ignored(alloc)),
         }
     }

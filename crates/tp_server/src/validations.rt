@@ -7,7 +7,6 @@ ghost use Rattle.tp_server.specs.Verdicts.{HasFewRules};
 
 use crate::server::Server;
 use crate::verdicts::{learn, verdicts_on};
-use std::alloc::Global;
 use tp_lock::LockTable;
 use tp_types::{
     Body, Letter, List, NoMemory, Reaction, Scenario, Spare, ValidateRequest, Verdict,
@@ -17,7 +16,6 @@ use tp_types::{
 impl<L: LockTable + Drop> Server<L> {
     pub(crate) fn on_validate(
         &mut self,
-        alloc: Global,
         spare: &mut Spare<Letter>,
         scenario: &Scenario,
         request: &ValidateRequest,
@@ -26,25 +24,25 @@ impl<L: LockTable + Drop> Server<L> {
         ensures { IfOk result (λ reaction.
             Gives (row.on_validate scenario.now self.old request.now) self.new reaction) }
     {
+        let alloc = spare.alloc();
         if !self.is_open(request.txn) {
             return Ok(ignored(alloc));
         }
         let Some(entry) = self.entry_at(request.txn) else {
-            return self.shows(alloc, spare, request, None);
+            return self.shows(spare, request, None);
         };
         if entry.ballot.is_some() {
             return Ok(ignored(alloc));
         }
         if entry.epoch != request.epoch {
-            return self.shows(alloc, spare, request, None);
+            return self.shows(spare, request, None);
         }
-        self.shows_deeds(alloc, spare, scenario, request)
+        self.shows_deeds(spare, scenario, request)
     }
 
     /// Learns the versions that are wanted, and evaluates what the transaction did here.
     fn shows_deeds(
         &mut self,
-        alloc: Global,
         spare: &mut Spare<Letter>,
         scenario: &Scenario,
         request: &ValidateRequest,
@@ -57,6 +55,7 @@ impl<L: LockTable + Drop> Server<L> {
             (slice_get scenario.now.txns request.now.txn.0))
             self.new reaction) }
     {
+        let alloc = spare.alloc();
         let Some(txn) = scenario.txns.get(request.txn.0 as usize) else {
             return Ok(ignored(alloc));
         };
@@ -67,13 +66,12 @@ impl<L: LockTable + Drop> Server<L> {
         };
         let deeds = entry.deeds.as_slice();
         let verdicts = verdicts_on(alloc, scenario, self, txn, &request.staple, want, deeds)?;
-        self.shows(alloc, spare, request, Some(verdicts))
+        self.shows(spare, request, Some(verdicts))
     }
 
     /// The verdicts are sent; none where what was done here was lost.
     fn shows(
         &self,
-        alloc: Global,
         spare: &mut Spare<Letter>,
         request: &ValidateRequest,
         verdicts: Option<List<Verdict>>,
@@ -87,6 +85,6 @@ impl<L: LockTable + Drop> Server<L> {
             verdicts,
         };
         let letter = self.reply(request.txn, Body::Verdicts(shown));
-        sent_alone(alloc, spare, letter)
+        sent_alone(spare, letter)
     }
 }

@@ -20,7 +20,6 @@ use tp_types::{
 impl<L: LockTable + Drop> Server<L> {
     pub(crate) fn on_prepare(
         &mut self,
-        alloc: Global,
         spare: &mut Spare<Letter>,
         scenario: &Scenario,
         request: &PrepareRequest,
@@ -30,33 +29,32 @@ impl<L: LockTable + Drop> Server<L> {
             Gives (row.on_prepare scenario.now self.old request.now) self.new reaction) }
     {
         if !self.is_open(request.txn) {
-            return self.on_settled_prepare(alloc, spare, request);
+            return self.on_settled_prepare(spare, request);
         }
         let outside = self.store.first_outside(request.txn);
         let Some(entry) = self.entry_at(request.txn) else {
-            return self.refuses(alloc, spare, scenario, request, No::Restarted);
+            return self.refuses(spare, scenario, request, No::Restarted);
         };
         if entry.epoch != request.epoch {
-            return self.refuses(alloc, spare, scenario, request, No::Restarted);
+            return self.refuses(spare, scenario, request, No::Restarted);
         }
         if let Some(cast) = &entry.ballot {
             if cast.turn == request.turn {
-                return self.votes_again(alloc, spare, request.txn, cast);
+                return self.votes_again(spare, request.txn, cast);
             }
             if request.turn < cast.turn {
-                return Ok(ignored(alloc));
+                return Ok(ignored(spare.alloc()));
             }
         } else if let Some((query, value)) = outside {
-            return self.refuses(alloc, spare, scenario, request, No::Range { query, value });
+            return self.refuses(spare, scenario, request, No::Range { query, value });
         }
-        self.evaluates(alloc, spare, scenario, request)
+        self.evaluates(spare, scenario, request)
     }
 
     /// Learns the versions that are wanted, and votes YES: with a staple on what the transaction did here, which is
     /// evaluated, and else without verdicts.
     fn evaluates(
         &mut self,
-        alloc: Global,
         spare: &mut Spare<Letter>,
         scenario: &Scenario,
         request: &PrepareRequest,
@@ -68,9 +66,10 @@ impl<L: LockTable + Drop> Server<L> {
             (row.evaluates scenario.now self.old request.now entry request.now.staple)
             self.new reaction) }
     {
+        let alloc = spare.alloc();
         let Some(staple) = &request.staple else {
             learn(&mut self.store, request.want.as_slice());
-            return self.votes_with(alloc, spare, request, List::new(alloc));
+            return self.votes_with(spare, request, List::new(alloc));
         };
         let Some(txn) = scenario.txns.get(request.txn.0 as usize) else {
             return Ok(ignored(alloc));
@@ -82,13 +81,12 @@ impl<L: LockTable + Drop> Server<L> {
         };
         let deeds = entry.deeds.as_slice();
         let verdicts = verdicts_on(alloc, scenario, self, txn, staple, want, deeds)?;
-        self.votes_with(alloc, spare, request, verdicts)
+        self.votes_with(spare, request, verdicts)
     }
 
     /// Votes YES with these verdicts, where the transaction has an entry.
     fn votes_with(
         &mut self,
-        alloc: Global,
         spare: &mut Spare<Letter>,
         request: &PrepareRequest,
         verdicts: List<Verdict>,
@@ -97,17 +95,17 @@ impl<L: LockTable + Drop> Server<L> {
             → row.entry_at self.old request.now.txn ≡ Some entry
             → Gives (row.votes self.old request.now verdicts entry) self.new reaction) }
     {
+        let alloc = spare.alloc();
         let Some(entry) = self.entry_at(request.txn) else {
             return Ok(ignored(alloc));
         };
         let forced = self.prepared(alloc, request, entry, verdicts)?;
-        self.votes(alloc, spare, forced)
+        self.votes(spare, forced)
     }
 
     /// The vote YES of a ballot.
     fn votes_again(
         &self,
-        alloc: Global,
         spare: &mut Spare<Letter>,
         txn: TxnId,
         cast: &Ballot,
@@ -119,16 +117,15 @@ impl<L: LockTable + Drop> Server<L> {
         let vote = VoteReply {
             txn,
             turn: cast.turn,
-            vote: Vote::Yes(cast.verdicts.try_clone(alloc)?),
+            vote: Vote::Yes(cast.verdicts.try_clone(spare.alloc())?),
         };
         let letter = self.reply(txn, Body::Vote(vote));
-        sent_alone(alloc, spare, letter)
+        sent_alone(spare, letter)
     }
 
     /// A request to prepare what is settled already: a vote NO is given again with its reason.
     fn on_settled_prepare(
         &self,
-        alloc: Global,
         spare: &mut Spare<Letter>,
         request: &PrepareRequest,
     ) -> Result<Reaction, NoMemory>
@@ -138,11 +135,12 @@ impl<L: LockTable + Drop> Server<L> {
             (option_flatten (slice_get self.now.settled request.now.txn.0)))
             self.now reaction) }
     {
+        let alloc = spare.alloc();
         match self.settled.get(request.txn.0 as usize) {
             Some(settled) => match settled.why {
                 Some(why) => {
                     let letter = self.no_letter(request, why);
-                    sent_alone(alloc, spare, letter)
+                    sent_alone(spare, letter)
                 }
                 None => Ok(ignored(alloc)),
             },
@@ -164,7 +162,6 @@ impl<L: LockTable + Drop> Server<L> {
     /// Aborts the transaction here, and votes NO.
     fn refuses(
         &mut self,
-        alloc: Global,
         spare: &mut Spare<Letter>,
         scenario: &Scenario,
         request: &PrepareRequest,
@@ -180,7 +177,7 @@ impl<L: LockTable + Drop> Server<L> {
             why: Some(why),
         };
         let vote = self.no_letter(request, why);
-        self.ends(alloc, spare, scenario, settled, vote)
+        self.ends(spare, scenario, settled, vote)
     }
 
     fn prepared(
@@ -210,16 +207,12 @@ impl<L: LockTable + Drop> Server<L> {
         })
     }
 
-    fn votes(
-        &mut self,
-        alloc: Global,
-        spare: &mut Spare<Letter>,
-        forced: Prepared,
-    ) -> Result<Reaction, NoMemory>
+    fn votes(&mut self, spare: &mut Spare<Letter>, forced: Prepared) -> Result<Reaction, NoMemory>
         ensures { IfOk result (λ reaction. (entry : Entry)
             → row.entry_at self.old forced.txn ≡ Some entry
             → Gives (row.casts self.old forced entry) self.new reaction) }
     {
+        let alloc = spare.alloc();
         let sent = forced.verdicts.try_clone(alloc);
         let Ok((kept, sent)) = both(forced.verdicts.try_clone(alloc), sent) else {
             drop(forced);
@@ -236,7 +229,7 @@ impl<L: LockTable + Drop> Server<L> {
             vote: Vote::Yes(sent),
         };
         let letter = self.reply(forced.txn, Body::Vote(vote));
-        forced_and_sent(alloc, spare, Record::Prepared(forced), letter)
+        forced_and_sent(spare, Record::Prepared(forced), letter)
     }
 }
 

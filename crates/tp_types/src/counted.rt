@@ -45,13 +45,19 @@ impl<L: Ledger> Steps<L> {
 pub trait Tally {
     ghost counted: { Self → ℕ };
 
-    /// One step, by which the count rises by at most one.
+    /// By how much each step raises the count: by one, or by nothing where no count is kept.
+    ghost weight: { ℕ };
+
+    /// One step. A body that is to work for each tally can raise the count by this call alone.
     fn step(&mut self)
-        ensures { counted self.new ≤ counted self.old + 1 };
+        ensures exact { counted self.new ≡ counted self.old + weight }
+        ensures most { counted self.new ≤ counted self.old + 1 };
 }
 
 impl<L: Ledger> Tally for Steps<L> {
     ghost counted = { λ steps. steps };
+
+    ghost weight = { 1 };
 
     fn step(&mut self) {
         self.tick();
@@ -64,6 +70,8 @@ pub struct Uncounted;
 
 impl Tally for Uncounted {
     ghost counted = { λ none. 0 };
+
+    ghost weight = { 0 };
 
     fn step(&mut self) {}
 }

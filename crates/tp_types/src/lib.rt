@@ -8,6 +8,7 @@
 //! - A push adds the member at the end; where memory is refused the list stays (`List::push`: `ok`, `err`)
 //! - A list of one member is made in memory that an earlier list has left, if one has, and so is an empty vector with
 //!   room (`Spare::list_of`; `Spare::room`: `empty`, `room`)
+//! - A step raises the count by the weight of who counts, which is one or nothing (`Tally::step`: `exact`, `most`)
 //! - A copy equals what it copies (`TryClone::try_clone`, which each type of scenarios, records, mails and
 //!   facts has)
 //! - Two answers taken together are both values, or the first failure (`both`: `ok`, `err`)

@@ -25,14 +25,10 @@ pub fn ignored(alloc: Global) -> Reaction
 }
 
 /// One letter is sent.
-pub fn sent_alone(
-    alloc: Global,
-    spare: &mut Spare<Letter>,
-    letter: Letter,
-) -> Result<Reaction, NoMemory>
+pub fn sent_alone(spare: &mut Spare<Letter>, letter: Letter) -> Result<Reaction, NoMemory>
     ensures { IfOk result (λ reaction. reaction ≡ record { append = None; letters = letter ∷ [] }) }
 {
-    let letters = spare.list_of(alloc, letter)?;
+    let letters = spare.list_of(letter)?;
     Ok(Reaction {
         append: None,
         letters,
@@ -41,7 +37,6 @@ pub fn sent_alone(
 
 /// A record is forced, and then one letter is sent.
 pub fn forced_and_sent(
-    alloc: Global,
     spare: &mut Spare<Letter>,
     forced: Record,
     letter: Letter,
@@ -51,6 +46,6 @@ pub fn forced_and_sent(
 {
     Ok(Reaction {
         append: Some(forced),
-        letters: spare.list_of(alloc, letter)?,
+        letters: spare.list_of(letter)?,
     })
 }

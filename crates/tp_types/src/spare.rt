@@ -21,13 +21,19 @@ impl<T: Drop> Spare<T> {
         }
     }
 
+    /// Where its memory comes from, so that who is lent it takes other memory there too.
+    #[inline(always)]
+    pub fn alloc(&self) -> Global {
+        *self.room.allocator()
+    }
+
     /// An empty vector with room for so many members, in the memory that was kept if there is some.
     #[inline(always)]
-    pub fn room(&mut self, alloc: Global, count: usize) -> Result<Vec<T>, NoMemory>
+    pub fn room(&mut self, count: usize) -> Result<Vec<T>, NoMemory>
         ensures empty { IfOk result (λ room. vec_len room ≡ 0) }
         ensures room { IfOk result (λ room. count ≤ vec_capacity room) }
     {
-        let mut room = mem::replace(&mut self.room, Vec::new(alloc));
+        let mut room = self.take();
         room.clear();
         room.reserve(count)?;
         Ok(room)
@@ -35,13 +41,20 @@ impl<T: Drop> Spare<T> {
 
     /// The list of one member, in the memory that was kept if there is some.
     #[inline(always)]
-    pub fn list_of(&mut self, alloc: Global, value: T) -> Result<List<T>, NoMemory>
+    pub fn list_of(&mut self, value: T) -> Result<List<T>, NoMemory>
         ensures { IfOk result (λ made. made ≡ value ∷ []) }
     {
-        let mut items = mem::replace(&mut self.room, Vec::new(alloc));
+        let mut items = self.take();
         items.clear();
         items.push(value)?;
         Ok(List::from_vec(items))
+    }
+
+    /// Takes the memory that was kept.
+    #[inline(always)]
+    fn take(&mut self) -> Vec<T> {
+        let alloc = self.alloc();
+        mem::replace(&mut self.room, Vec::new(alloc))
     }
 
     /// Keeps the memory of a list. What stands in it is dropped.

@@ -1,5 +1,5 @@
 -- The ring of the numbers that are pending: node 0 is its end, and the node of a number is the one behind it.
-use Rattle.std.specs.Prelude.{◌≡◌, ◌<◌, ◌+◌, ℕ, List, [], ◌∷◌, ◌++◌, Bool, true, false, Some, length, map, slice_get, slice_index_or, slice_set}
+use Rattle.std.specs.Prelude.{◌≡◌, ◌<◌, ℕ, List, [], ◌∷◌, ◌++◌, Bool, true, false, Some, length, map, slice_get, slice_index_or, slice_set}
 use Rattle.tp_pending.specs.Flags.{marked}
 use Rattle.tp_pending.specs.declared.nodes.Node.{Node}
 

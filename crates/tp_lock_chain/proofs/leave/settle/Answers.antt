@@ -14,5 +14,5 @@ loop-turn-preserved g c =
       steps =
           let same = settle_steps_turn all turn c.loop-turn.pool c.settle_one.new.pool c.loop-turn.at c.loop-turn.passed c.with_entry-passed.result c.in-On.node c.node_at.result
           c.links-at-in-On.result lt c.in-On.is c.node_at.ensures c.settle_one.ensures.pool c.with_entry-passed.ensures c.links-at-in-On.ensures in
-          omega (arith, c.step.ensures, c.settle_one.ensures.steps, c.loop-turn.invariant.steps, same);
+          omega (arith, c.step.ensures.most, c.settle_one.ensures.steps, c.loop-turn.invariant.steps, same);
     }

@@ -1,5 +1,5 @@
 use Rattle.std.proofs.Common.{Bool, List, sym, ◌∙◌, ap, arith, length, slice_get, ◌-◌}
-use Rattle.tp_pending.proofs.RingLemmas.{flags_long, oldest_none, oldest_some}
+use Rattle.tp_pending.proofs.RingLemmas.{oldest_none, oldest_some}
 use Rattle.tp_pending.proofs.FlagLemmas.{marked-within}
 use Rattle.tp_pending.specs.Flags.{marked}
 use Rattle.tp_pending.specs.mirrors.Ring.{flags_of, link_after}

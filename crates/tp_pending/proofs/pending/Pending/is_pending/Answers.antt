@@ -1,8 +1,7 @@
-use Rattle.std.proofs.Common.{Bool, List, Option, sym, ◌∙◌, ◌+◌, ◌<◌, ◌==◌, ◌≡◌, ap, arith, false, length, slice_get, unwrap_or}
-use Rattle.std.specs.List.{list_any}
+use Rattle.std.proofs.Common.{Bool, List, Option, sym, ◌∙◌, ◌+◌, ◌<◌, ap, arith, false, length, slice_get, unwrap_or}
 use Rattle.tp_pending.proofs.FlagLemmas.{any-marked_all}
 use Rattle.tp_pending.proofs.RingLemmas.{flag_past, flag_read, flags_long, read_past, read_some}
-use Rattle.tp_pending.specs.mirrors.Ring.{end_alone, flags_of, is_pending_in}
+use Rattle.tp_pending.specs.mirrors.Ring.{end_alone, is_pending_in}
 use Rattle.tp_pending.proofs.pending.Pending.is_pending.Goals as goal
 
 pub returns-then-len-number : goal.returns-then-len-number

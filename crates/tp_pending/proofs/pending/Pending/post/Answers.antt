@@ -1,4 +1,4 @@
-use Rattle.std.proofs.Common.{Bool, List, length, sym, subst, ◌∙◌, ◌++◌, ◌∷◌, ◌≡◌, [], ap, true, ℕ}
+use Rattle.std.proofs.Common.{Bool, List, sym, subst, ◌∙◌, ◌++◌, ◌∷◌, ◌≡◌, [], ap, true, ℕ}
 use Rattle.tp_pending.proofs.RingLemmas.{posted_flags, posted_ring}
 use Rattle.tp_pending.specs.mirrors.Ring.{IsRing, flags_of, link_before, with_after, with_before, with_last}
 use Rattle.tp_pending.proofs.pending.Pending.post.Goals as goal

@@ -1,7 +1,7 @@
-use Rattle.std.proofs.Common.{arith, Bool, List, Option, Some, length, slice_get, slice_set, sym, subst, ◌∙◌, ◌+◌, ◌<◌, ◌≡◌, ap, false, true, unwrap_or, ℕ}
+use Rattle.std.proofs.Common.{arith, Bool, List, Option, Some, length, slice_get, slice_set, sym, subst, ◌∙◌, ◌+◌, ◌<◌, ◌≡◌, ap, false, unwrap_or}
 use Rattle.tp_pending.proofs.RingLemmas.{flag_past, flag_read, flags_long, taken_flags, taken_ring}
 use Rattle.tp_pending.proofs.FlagLemmas.{taken_already}
-use Rattle.tp_pending.specs.mirrors.Ring.{IsRing, flags_of, is_pending_in, with_after, with_before, with_done, without}
+use Rattle.tp_pending.specs.mirrors.Ring.{IsRing, flags_of, is_pending_in, with_before, with_done, without}
 use Rattle.tp_pending.proofs.pending.Pending.take.Goals as goal
 
 pub returns-then-len-number : goal.returns-then-len-number

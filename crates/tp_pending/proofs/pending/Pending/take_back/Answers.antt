@@ -2,7 +2,6 @@ use Rattle.std.proofs.Common.{arith, Bool, List, length, slice_set, sym, subst, 
 use Rattle.std.proofs.lemmas.List.{length-set}
 use Rattle.tp_pending.proofs.RingLemmas.{cut_flags, cut_ring, front_long}
 use Rattle.tp_pending.proofs.FlagLemmas.{front_kept, taken_last}
-use Rattle.tp_pending.specs.declared.nodes.Node.{Node}
 use Rattle.tp_pending.specs.mirrors.Ring.{IsRing, flags_of}
 use Rattle.tp_pending.proofs.pending.Pending.take_back.Goals as goal
 
