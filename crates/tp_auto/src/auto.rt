@@ -10,7 +10,7 @@ ghost use Rattle.tp_auto.specs.mirrors.Ups as ups;
 ghost use Rattle.tp_auto.specs.mirrors.Ups.{KnowsUp};
 
 use std::alloc::Global;
-use tp_machine::World;
+use tp_machine::{Watch, World};
 use tp_types::{Actor, NoMemory, Scenario, ServerId, Step, TxnId, Uncounted};
 
 /// The lowest transaction that is not submitted.
@@ -166,8 +166,9 @@ pub fn cursor_after(scenario: &Scenario, taken: &Step, cursor: u32) -> u32
 
 /// Takes automatic steps until the world is quiet, or memory is refused. No bound is counted: that the world comes to
 /// be quiet, and within the bound, is proved. A world that was given up before stays as it is. Who is down is looked
-/// for at the first step and after each boot alone, as no other automatic step takes an actor down.
-pub fn drain(alloc: Global, world: &mut World) -> Result<(), NoMemory>
+/// for at the first step and after each boot alone, as no other automatic step takes an actor down. Who looks on sees each
+/// step.
+pub fn drain<W: Watch>(alloc: Global, world: &mut World, watch: &mut W) -> Result<(), NoMemory>
     ensures quiet { OnOk result (is_quiet world.new.scenario world.new.machine ≡ true) }
     ensures steps { OnOk result (Drains world.old world.new) }
     ensures few { length world.new.machine.state.steps
@@ -177,6 +178,8 @@ pub fn drain(alloc: Global, world: &mut World) -> Result<(), NoMemory>
     ensures given_up { world.old.given_up ≡ true → IsErr result }
     ensures unchanged { world.old.given_up ≡ true → world.new ≡ world.old }
     ensures scenario { world.new.scenario ≡ world.old.scenario }
+    ensures followed { OnOk result
+        (W.follows watch.old world.old → W.follows watch.new world.new) }
 {
     if world.given_up() {
         return Err(NoMemory);
@@ -186,7 +189,7 @@ pub fn drain(alloc: Global, world: &mut World) -> Result<(), NoMemory>
     let mut all_up = false;
     while let Some(step) = next_knowing(world, cursor, all_up) {
         let after = cursor_after(world.scenario(), &step, cursor);
-        match world.step(alloc, &step) {
+        match world.step(alloc, watch, &step) {
             Ok(()) => {
                 cursor = after;
                 all_up = keeps_up(&step);

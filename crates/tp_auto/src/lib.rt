@@ -10,7 +10,8 @@
 //!   `World::step` takes and does not refuse (`next`: `value`, `ids`, `allowed`)
 //! - A drain answers Ok only where the world is quiet, and it then did exactly the automatic steps of the world, with
 //!   the cursor at 0 at first (`drain`: `quiet`, `steps`). Whatever it answers, it added at most as many steps as the
-//!   bound of the world that it was given (`drain`: `few`). It counts none of them: that it ends is proved by a measure
+//!   bound of the world that it was given (`drain`: `few`). It counts none of them: that it ends is proved by a measure.
+//!   Who looks on has then followed the run to its end (`drain`: `followed`)
 //! - Where memory is refused the world is given up, after the automatic steps that came before; a world that was given
 //!   up is answered by want of memory, and stays as it is (`drain`: `memory`, `stopped`, `given_up`, `unchanged`)
 #![tactic(auto)]

@@ -122,7 +122,10 @@ module _ {D : Type 0} (state : D → DiskState) (does : D → Call → Result (U
 
 -- ---- a crash within an append
 
--- so many calls passed before the crash, and what was unsynced reads fill
+-- of an append so many calls passed before the crash, and what was unsynced then reads fill: the record is kept where all
+-- four passed, or three did and its gate, which was not synced, reads 1
+abbrev pub is_kept : ℕ → ℕ → Bool
+is_kept calls fill = nat_le 4 calls || (calls == 3 && fill == 1)
+
 abbrev pub kept_after : ℕ → ℕ → List Record → Record → List Record
-kept_after calls fill records r =
-    if nat_le 4 calls || (calls == 3 && fill == 1) then records ++ r ∷ [] else records
+kept_after calls fill records r = if is_kept calls fill then records ++ r ∷ [] else records

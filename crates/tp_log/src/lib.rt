@@ -29,7 +29,7 @@
 //! - Every image that a crash of a log's disk may leave gives the log's records; after an append that failed,
 //!   with the new one or without (`Log::disk`, `into_disk`: `kept`, `failed`)
 //! - A log over a disk in memory that is stopped after some calls of an append, and crashes in place, has the new
-//!   record exactly by `kept_after`. It is closed until it is read again, nothing on its disk is unsynced, and no call
+//!   record exactly by `kept_after`, which is told (`is_kept`). It is closed until it is read again, nothing on its disk is unsynced, and no call
 //!   of it is stopped. Where such a crash is refused the log keeps its records (`Log::stop_after`, `crash`,
 //!   `crash_in_append`, `run_on`)
 //! - Where no call of the disk is stopped an append of a record that is not too long to an open log is refused for want
@@ -37,7 +37,7 @@
 //!   such a disk, and empty (`Log::fresh`)
 //! - What the bytes of the disk give is read without a call of it, and a log is opened anew without giving its disk up
 //!   (`Log::records`, `reread`). From a gate on, of which the log told the place, just the records behind it are given
-//!   (`Log::gate`, `behind`, `reread_behind`)
+//!   (`Log::gate`, `reread_behind`)
 #![tactic(auto)]
 
 ghost use Rattle.std.specs.Prelude.{◌≡◌, ◌<◌, ◌^◌, ℕ, List, All};
@@ -49,13 +49,15 @@ mod block;
 mod calls;
 mod error;
 mod image;
+mod kept;
 mod log;
 mod opening;
 mod running;
 
 pub use block::BODY_MAX;
 pub use error::LogError;
-pub use log::{Log, Tail};
+pub use kept::is_kept;
+pub use log::Log;
 
 /// Every image of bytes gives a list of records, one alone, which is a function of it, or fails at one place, and never
 /// both.

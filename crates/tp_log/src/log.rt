@@ -11,14 +11,6 @@ use tp_device::{Disk, DiskError, MemoryDisk};
 use tp_record::Writer;
 use tp_types::{List, NoMemory, Record};
 
-/// What a log has behind a gate.
-#[derive(Drop)]
-pub struct Tail {
-    pub records: List<Record>,
-    /// The place of the gate that ends the log, in bytes.
-    pub end: u64,
-}
-
 /// A log on a disk, to which records are appended one by one. A record that was appended outlives a crash.
 #[derive(Drop)]
 pub struct Log<D: Disk> {
@@ -296,31 +288,6 @@ impl Log<MemoryDisk> {
         ensures { IfOk result (λ records. Gives self.now.disk.disk.seen records) }
     {
         Ok(given_by(alloc, self.disk.content())?.records)
-    }
-
-    /// The records that the bytes of the disk give from a gate on, of which the place is given, and the place where the log
-    /// ends. It makes no call of the disk.
-    pub fn behind(&self, alloc: Global, place: u64) -> Result<Tail, NoMemory>
-        requires { (before : List Record) × (more : List Record)
-            × GivesBehind self.now.disk.disk.seen place before more }
-        ensures records { IfOk result (λ found. (before more : List Record)
-            → GivesBehind self.now.disk.disk.seen place before more → found.records ≡ more) }
-        ensures end { IfOk result (λ found. (before more : List Record)
-            → GivesBehind self.now.disk.disk.seen place before more
-            → found.end ≡ length (blocks (before ++ more))) }
-    {
-        let image = self.disk.content();
-        if image.len() <= 1 {
-            return Ok(Tail {
-                records: List::new(alloc),
-                end: 0,
-            });
-        }
-        let found = given_by(alloc, image.split_at(place as usize).1)?;
-        Ok(Tail {
-            records: found.records,
-            end: place + found.gate,
-        })
     }
 
     /// Opens the log anew on its disk, as `opened` does, in place, and gives its records. The log is closed where it is

@@ -1,10 +1,9 @@
 -- Records that a log takes.
-use Rattle.std.specs.Prelude.{length, ◌≤◌, List, Some}
+use Rattle.std.specs.Prelude.{List, Some}
+use Rattle.tp_actor_log.specs.Records.{FitsLog}
 use Rattle.tp_coord.specs.State.{Coordinator}
-use Rattle.tp_log.specs.Logs.{body_max}
-use Rattle.tp_model.specs.Words.{Record, Scenario, Step}
+use Rattle.tp_model.specs.Words.{Scenario, Step}
 use Rattle.tp_model.specs.Words.step
-use Rattle.tp_record.specs.Spelling.{spelling}
 use Rattle.tp_server.specs.State.{Server}
 use Rattle.tp_types.specs.Each.{Each}
 use Rattle.tp_machine.specs.declared.actors.Actors.{Actors}
@@ -12,11 +11,7 @@ use Rattle.tp_machine.specs.Machine.{after}
 use Rattle.tp_machine.specs.Named.{IsStepOf}
 use Rattle.tp_machine.specs.Parts.{Part}
 
--- the record is not too long for a log
-abbrev pub FitsLog : Record → Type 0
-FitsLog kept = length (spelling kept) ≤ body_max
-
--- nor is any on an actor's log
+-- no record on an actor's log is too long for a log
 abbrev pub HasShortLog : {S : Type 0} → Part S → Type 0
 HasShortLog part = Each FitsLog part.log
 

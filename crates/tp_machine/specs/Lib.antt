@@ -1,9 +1,12 @@
+pub mod Acts
 pub mod Fits
 pub mod Logs
 pub mod Machine
+pub mod Moves
 pub mod Named
 pub mod Opening
 pub mod Parts
 pub mod Views
+pub mod Watches
 pub mod WorldView
 pub mod mirrors

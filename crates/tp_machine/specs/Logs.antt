@@ -5,9 +5,6 @@ use Rattle.tp_model.specs.Words.{Actor, Decision, Prepared, Record, Settled, Txn
 use Rattle.tp_model.specs.Words.actor
 use Rattle.tp_recover.specs.Log.{decided_in, epoch_in, has_voted, prepared_in, settled_in}
 use Rattle.tp_coord.specs.State.{Coordinator}
-use Rattle.tp_device.specs.Disks.{MayLeave}
-use Rattle.tp_device.specs.Memory.{Memory}
-use Rattle.tp_log.specs.Images.{Gives}
 use Rattle.tp_machine.specs.declared.actors.Actors.{Actors}
 use Rattle.tp_machine.specs.Parts.{Part}
 use Rattle.tp_server.specs.State.{Server}
@@ -62,7 +59,3 @@ abbrev pub has_log : Actors → Actor → Bool
 has_log actors (actor.Server at) = is_some (slice_get actors.servers at.0)
 has_log actors (actor.Coordinator txn) = is_some (slice_get actors.coordinators txn.0)
 has_log actors _ = false
-
--- every image that a crash may leave of the disk gives exactly these records
-abbrev pub IsDiskOf : Memory → List Record → Type 0
-IsDiskOf disk records = (image : List ℕ) → MayLeave disk.disk image → Gives image records

@@ -1,7 +1,8 @@
 -- The cluster as a machine: its state, what a step does to it, and the state after a list of steps.
-use Rattle.std.specs.Prelude.{ℕ, ◌+◌, ◌-◌, ◌==◌, ◌&&◌, ◌||◌, List, [], ◌∷◌, ◌++◌, length, map, filter, drop, slice_get, slice_set, Bool, true, false, not, Option, Some, None, is_some, is_none, nat_le, nat_lt, option_and_then, unwrap_or, ℤ, if◌then◌else◌}
+use Rattle.std.specs.Prelude.{ℕ, ◌+◌, ◌-◌, ◌==◌, List, [], ◌∷◌, ◌++◌, length, map, filter, drop, slice_get, slice_set, Bool, true, false, not, Option, Some, None, is_some, is_none, nat_lt, option_and_then, unwrap_or, ℤ, if◌then◌else◌}
 use Rattle.std.specs.List.{flat_map, range_with_len}
 use Rattle.std.specs.Option.{option_map_or, option_or}
+use Rattle.tp_actor_log.specs.Records.{cut_record, log_with}
 use Rattle.tp_model.specs.Words.{Actor, AdminId, CredId, Cut, Ending, Fact, Item, Letter, Mail, Record, Scenario, ServerId, Step, TxnId, What}
 use Rattle.tp_model.specs.Words.actor
 use Rattle.tp_model.specs.Words.log
@@ -86,11 +87,6 @@ acts fact own old up kept letters =
       letters = letters;
     }
 
--- a log with what was appended to it
-abbrev pub log_with : List Record → Option Record → List Record
-log_with kept None = kept
-log_with kept (Some forced) = kept ++ forced ∷ []
-
 -- an actor that is up acts by its row
 abbrev pub acts_by : {S : Type 0} → (Record → List What) → List What → List Record → Effect S
     → PartMove S
@@ -144,6 +140,31 @@ coordinator_takes_up sc part mail (Some c) =
 
 abbrev pub coordinator_takes : Scenario → Part Coordinator → Mail → PartMove Coordinator
 coordinator_takes sc part mail = coordinator_takes_up sc part mail part.up
+
+-- ---- submissions: what needs no place, and then the place
+
+abbrev pub coordinator_begins_up : Scenario → Part Coordinator → TxnId → Option Coordinator
+    → PartMove Coordinator
+coordinator_begins_up sc part txn None = stays_down part (what.Submitted txn ∷ [])
+coordinator_begins_up sc part txn (Some c) =
+    acts_by coordinator_fact (what.Submitted txn ∷ []) part.log (submit_row sc c)
+
+-- a coordinator begins its transaction, wherever that is
+abbrev pub coordinator_begins : Scenario → Part Coordinator → TxnId → PartMove Coordinator
+coordinator_begins sc part txn = coordinator_begins_up sc part txn part.up
+
+abbrev pub placed_up : ℕ → Option Coordinator → Option Coordinator
+placed_up place None = None
+placed_up place (Some c) = Some (coordinator_with_age c place)
+
+-- and is told the place, which is its age
+abbrev pub placed_part : ℕ → Part Coordinator → Part Coordinator
+placed_part place part = record part { up = placed_up place part.up }
+
+-- the record that a coordinator forces as its transaction is submitted, while it is up
+abbrev pub begin_forces : Scenario → Option Coordinator → Option Record
+begin_forces sc None = None
+begin_forces sc (Some c) = (submit_row sc c).reaction.append
 
 -- the effect of a submission, with its place
 abbrev pub with_age : Effect Coordinator → ℕ → Effect Coordinator
@@ -274,15 +295,6 @@ abbrev pub goes_down : {S : Type 0} → (Record → List What) → List What →
     → PartMove S
 goes_down fact own part append = acts fact own part.log None (log_with part.log append) []
 
--- a record is on the log where all four calls of its append passed, or three did and its gate, which was not synced, reads 1
-abbrev pub is_kept : Cut → Bool
-is_kept cut = nat_le 4 cut.calls || (cut.calls == 3 && cut.fill == 1)
-
--- what a cut leaves of the record that was to be forced
-abbrev pub cut_record : Cut → Option Record → Option Record
-cut_record cut None = None
-cut_record cut (Some forced) = if is_kept cut then Some forced else None
-
 -- the record that a server forces on a mail, while it is up
 abbrev pub server_forces : Scenario → Option Server → Mail → Option Record
 server_forces sc None mail = None
@@ -341,6 +353,14 @@ crashes sc actors mails (actor.Coordinator txn) cut =
 crashes sc actors mails who cut = idle_move actors (what.Crashed who ∷ [])
 
 -- ---- boots
+
+-- the record that a server forces as it boots
+abbrev pub server_boot_forces : Scenario → ServerId → Part Server → Option Record
+server_boot_forces sc at part = (server_boot.boot_row sc at (kept sc at part.log)).reaction.append
+
+-- the record that a coordinator forces as it boots
+abbrev pub coordinator_boot_forces : Scenario → TxnId → Part Coordinator → Option Record
+coordinator_boot_forces sc txn part = (coord_boot.boot_row sc txn part.log).reaction.append
 
 -- a server boots by what its log comes to
 abbrev pub server_boots : Scenario → ServerId → Part Server → PartMove Server

@@ -1,4 +1,2 @@
 pub mod Acts
-pub mod Disks
 pub mod History
-pub mod Pasts

@@ -1,5 +1,5 @@
 //! All the actors of a world, and what a step does to them.
-ghost use Rattle.std.specs.Prelude.{◌≡◌, ◌+◌, ◌<◌, ◌^◌, ◌∷◌, [], List, Some, length, map, slice_get, true, is_some, IfOk, IfSome, OnErr};
+ghost use Rattle.std.specs.Prelude.{◌≡◌, ◌+◌, ◌<◌, ◌^◌, ◌∷◌, [], List, Some, length, map, slice_get, true, is_some, IfOk, IfSome, OnErr, OnOk};
 ghost use Rattle.std.specs.Option.{option_copied};
 ghost use Rattle.tp_machine.specs.Machine as machine;
 ghost use Rattle.tp_model.specs.Words.actor;
@@ -8,10 +8,11 @@ ghost use Rattle.tp_offices.specs.Authority.{clock_end};
 ghost use Rattle.tp_offices.specs.Master as office;
 
 use crate::part::{
-    Act, Part, coordinator_crashes_in, coordinator_submits, coordinator_takes, crash_alone, no_act,
+    Act, Part, alone, coordinator_crashes_in, coordinator_submits, coordinator_takes, no_act,
     server_crashes_in, server_takes,
 };
 use crate::spares::Spares;
+use crate::watch::Watch;
 use std::alloc::Global;
 use tp_coord::Coordinator;
 use tp_device::MemoryDisk;
@@ -38,11 +39,13 @@ pub struct Actors {
 }
 
 impl Actors {
-    ghost use Rattle.tp_log.specs.Images.{blocks};
+    ghost use Rattle.tp_actor_log.specs.Disks.{IsDiskOf};
     ghost use Rattle.tp_machine.specs.Fits.{FitLogs};
     ghost use Rattle.tp_machine.specs.Logs as logs;
+    ghost use Rattle.tp_machine.specs.Moves.{forces_at};
+    ghost use Rattle.tp_machine.specs.Watches.{Heard};
     ghost use Rattle.tp_machine.specs.mirrors.Acts.{Moves, SameLogs, SameUp, with_down};
-    ghost use Rattle.tp_machine.specs.Views.{StandsAt, coordinator_at, forces_at, server_at};
+    ghost use Rattle.tp_machine.specs.Views.{coordinator_at, server_at};
     ghost use Rattle.tp_model.specs.Words.{Mail, Record};
 
     /// The actors as they stand before the first step.
@@ -85,7 +88,7 @@ impl Actors {
     pub fn disk(&self, actor: Actor) -> Option<&MemoryDisk>
         ensures some { is_some result ≡ logs.has_log self.now actor }
         ensures kept { IfSome (option_copied result)
-            (λ disk. logs.IsDiskOf disk (logs.records_of self.now actor)) }
+            (λ disk. IsDiskOf disk (logs.records_of self.now actor)) }
     {
         match actor {
             Actor::Server(at) => match self.servers.get(at.0 as usize) {
@@ -112,49 +115,6 @@ impl Actors {
             Actor::Coordinator(txn) => match self.coordinators.get(txn.0 as usize) {
                 None => Ok(List::new(alloc)),
                 Some(part) => part.records(alloc),
-            },
-            _ => Ok(List::new(alloc)),
-        }
-    }
-
-    /// The place in bytes where an actor's log ends; 0 for an office.
-    pub fn log_end(&self, alloc: Global, actor: Actor) -> Result<u64, NoMemory>
-        ensures { IfOk result (λ place.
-            place ≡ length (blocks (logs.records_of self.now actor))) }
-    {
-        match actor {
-            Actor::Server(at) => match self.servers.get(at.0 as usize) {
-                None => Ok(0),
-                Some(part) => part.end(alloc),
-            },
-            Actor::Coordinator(txn) => match self.coordinators.get(txn.0 as usize) {
-                None => Ok(0),
-                Some(part) => part.end(alloc),
-            },
-            _ => Ok(0),
-        }
-    }
-
-    /// The records of an actor's log from a place on at which it has ended.
-    pub fn records_behind(
-        &self,
-        alloc: Global,
-        actor: Actor,
-        place: u64,
-    ) -> Result<List<Record>, NoMemory>
-        requires { (before : List Record) × (more : List Record)
-            × StandsAt (logs.records_of self.now actor) place before more }
-        ensures { IfOk result (λ records. (before more : List Record)
-            → StandsAt (logs.records_of self.now actor) place before more → records ≡ more) }
-    {
-        match actor {
-            Actor::Server(at) => match self.servers.get(at.0 as usize) {
-                None => Ok(List::new(alloc)),
-                Some(part) => part.records_behind(alloc, place),
-            },
-            Actor::Coordinator(txn) => match self.coordinators.get(txn.0 as usize) {
-                None => Ok(List::new(alloc)),
-                Some(part) => part.records_behind(alloc, place),
             },
             _ => Ok(List::new(alloc)),
         }
@@ -195,85 +155,85 @@ impl Actors {
 
     /// An actor crashes in the receipt of a mail to it: what is left of it is on its log. It goes down once that is noted. After
     /// NoMemory the actors are up as before, and so are their logs; nothing else is said of them.
-    pub fn crash_in(
+    pub fn crash_in<W: Watch>(
         &mut self,
-        alloc: Global,
         spares: &mut Spares,
+        watch: &mut W,
         scenario: &Scenario,
         actor: Actor,
         mail: &Mail,
         cut: Cut,
-    ) -> Result<(Act, Option<Record>), NoMemory>
+    ) -> Result<Act, NoMemory>
         requires few { HasFewRules scenario.now }
         requires fits { FitLogs (machine.receipt scenario.now self.old mail.now actor).actors }
-        ensures ok { IfOk result (λ made. (mails : List Mail)
+        ensures ok { IfOk result (λ act. (mails : List Mail)
             → slice_get mails cut.mail ≡ Some mail.now
             → Moves (machine.crashes scenario.now self.old mails actor (Some cut))
-            (with_down self.new actor) made.0) }
-        ensures forced { IfOk result (λ made.
-            made.1 ≡ forces_at scenario.now self.old actor mail.now) }
+            (with_down self.new actor) act) }
+        ensures heard { OnOk result (Heard W.hears watch.old
+            (forces_at scenario.now self.old actor mail.now) watch.new) }
         ensures up { SameUp self.old self.new }
         ensures logs { OnErr result (SameLogs self.old self.new) }
     {
         match actor {
-            Actor::Server(at) => self.server_crash_in(alloc, spares, scenario, at, mail, cut),
+            Actor::Server(at) => self.server_crash_in(spares, watch, scenario, at, mail, cut),
             Actor::Coordinator(txn) => self.coordinator_crash_in(
-                alloc, spares, scenario, txn, mail, cut,
+                spares, watch, scenario, txn, mail, cut,
             ),
-            _ => crash_alone(alloc, &mut spares.facts, actor),
+            _ => alone(&mut spares.facts, What::Crashed(actor)),
         }
     }
 
-    fn server_crash_in(
+    fn server_crash_in<W: Watch>(
         &mut self,
-        alloc: Global,
         spares: &mut Spares,
+        watch: &mut W,
         scenario: &Scenario,
         at: ServerId,
         mail: &Mail,
         cut: Cut,
-    ) -> Result<(Act, Option<Record>), NoMemory>
+    ) -> Result<Act, NoMemory>
         requires few { HasFewRules scenario.now }
         requires fits { FitLogs
             (machine.receipt scenario.now self.old mail.now (actor.Server at)).actors }
-        ensures ok { IfOk result (λ made. (mails : List Mail)
+        ensures ok { IfOk result (λ act. (mails : List Mail)
             → slice_get mails cut.mail ≡ Some mail.now
             → Moves (machine.crashes scenario.now self.old mails (actor.Server at) (Some cut))
-            (with_down self.new (actor.Server at)) made.0) }
-        ensures forced { IfOk result (λ made.
-            made.1 ≡ forces_at scenario.now self.old (actor.Server at) mail.now) }
+            (with_down self.new (actor.Server at)) act) }
+        ensures heard { OnOk result (Heard W.hears watch.old
+            (forces_at scenario.now self.old (actor.Server at) mail.now) watch.new) }
         ensures up { SameUp self.old self.new }
         ensures logs { OnErr result (SameLogs self.old self.new) }
     {
         match self.servers.get_mut(at.0 as usize) {
-            None => crash_alone(alloc, &mut spares.facts, Actor::Server(at)),
-            Some(part) => server_crashes_in(part, alloc, spares, scenario, at, mail, cut),
+            None => alone(&mut spares.facts, What::Crashed(Actor::Server(at))),
+            Some(part) => server_crashes_in(part, spares, watch, scenario, at, mail, cut),
         }
     }
 
-    fn coordinator_crash_in(
+    fn coordinator_crash_in<W: Watch>(
         &mut self,
-        alloc: Global,
         spares: &mut Spares,
+        watch: &mut W,
         scenario: &Scenario,
         txn: TxnId,
         mail: &Mail,
         cut: Cut,
-    ) -> Result<(Act, Option<Record>), NoMemory>
+    ) -> Result<Act, NoMemory>
         requires fits { FitLogs
             (machine.receipt scenario.now self.old mail.now (actor.Coordinator txn)).actors }
-        ensures ok { IfOk result (λ made. (mails : List Mail)
+        ensures ok { IfOk result (λ act. (mails : List Mail)
             → slice_get mails cut.mail ≡ Some mail.now
             → Moves (machine.crashes scenario.now self.old mails (actor.Coordinator txn) (Some cut))
-            (with_down self.new (actor.Coordinator txn)) made.0) }
-        ensures forced { IfOk result (λ made.
-            made.1 ≡ forces_at scenario.now self.old (actor.Coordinator txn) mail.now) }
+            (with_down self.new (actor.Coordinator txn)) act) }
+        ensures heard { OnOk result (Heard W.hears watch.old
+            (forces_at scenario.now self.old (actor.Coordinator txn) mail.now) watch.new) }
         ensures up { SameUp self.old self.new }
         ensures logs { OnErr result (SameLogs self.old self.new) }
     {
         match self.coordinators.get_mut(txn.0 as usize) {
-            None => crash_alone(alloc, &mut spares.facts, Actor::Coordinator(txn)),
-            Some(part) => coordinator_crashes_in(part, alloc, spares, scenario, txn, mail, cut),
+            None => alone(&mut spares.facts, What::Crashed(Actor::Coordinator(txn))),
+            Some(part) => coordinator_crashes_in(part, spares, watch, scenario, txn, mail, cut),
         }
     }
 
@@ -298,10 +258,10 @@ impl Actors {
 
     /// A mail is delivered to its actor. After NoMemory the actors are up as before, and so are their logs; nothing else is
     /// said of them.
-    pub fn receive(
+    pub fn receive<W: Watch>(
         &mut self,
-        alloc: Global,
         spares: &mut Spares,
+        watch: &mut W,
         scenario: &Scenario,
         mail: &Mail,
     ) -> Result<Act, NoMemory>
@@ -311,21 +271,23 @@ impl Actors {
         ensures ok { IfOk result (λ act.
             Moves
             (machine.receipt scenario.now self.old mail.now mail.now.letter.to) self.new act) }
+        ensures heard { OnOk result (Heard W.hears watch.old
+            (forces_at scenario.now self.old mail.now.letter.to mail.now) watch.new) }
         ensures up { SameUp self.old self.new }
         ensures logs { OnErr result (SameLogs self.old self.new) }
     {
         match mail.letter.to {
-            Actor::Server(at) => self.to_server(alloc, spares, scenario, mail, at),
-            Actor::Coordinator(txn) => self.to_coordinator(alloc, spares, scenario, mail, txn),
-            Actor::Authority => self.to_authority(alloc, spares, mail),
-            Actor::Master => self.to_master(alloc, spares, mail),
+            Actor::Server(at) => self.to_server(spares, watch, scenario, mail, at),
+            Actor::Coordinator(txn) => self.to_coordinator(spares, watch, scenario, mail, txn),
+            Actor::Authority => self.to_authority(spares, mail),
+            Actor::Master => self.to_master(spares, mail),
         }
     }
 
-    fn to_server(
+    fn to_server<W: Watch>(
         &mut self,
-        alloc: Global,
         spares: &mut Spares,
+        watch: &mut W,
         scenario: &Scenario,
         mail: &Mail,
         at: ServerId,
@@ -338,19 +300,21 @@ impl Actors {
             (machine.to_server scenario.now self.old mail.now at
             (slice_get self.old.servers at.0))
             self.new act) }
+        ensures heard { OnOk result (Heard W.hears watch.old
+            (forces_at scenario.now self.old (actor.Server at) mail.now) watch.new) }
         ensures up { SameUp self.old self.new }
         ensures logs { OnErr result (SameLogs self.old self.new) }
     {
         match self.servers.get_mut(at.0 as usize) {
-            None => Ok(no_act(alloc)),
-            Some(part) => server_takes(part, alloc, spares, scenario, at, mail),
+            None => Ok(no_act(spares.alloc())),
+            Some(part) => server_takes(part, spares, watch, scenario, at, mail),
         }
     }
 
-    fn to_coordinator(
+    fn to_coordinator<W: Watch>(
         &mut self,
-        alloc: Global,
         spares: &mut Spares,
+        watch: &mut W,
         scenario: &Scenario,
         mail: &Mail,
         txn: TxnId,
@@ -363,46 +327,39 @@ impl Actors {
             (machine.to_coordinator scenario.now self.old mail.now txn
             (slice_get self.old.coordinators txn.0))
             self.new act) }
+        ensures heard { OnOk result (Heard W.hears watch.old
+            (forces_at scenario.now self.old (actor.Coordinator txn) mail.now) watch.new) }
         ensures up { SameUp self.old self.new }
         ensures logs { OnErr result (SameLogs self.old self.new) }
     {
         match self.coordinators.get_mut(txn.0 as usize) {
-            None => Ok(no_act(alloc)),
-            Some(part) => coordinator_takes(part, alloc, spares, scenario, mail),
+            None => Ok(no_act(spares.alloc())),
+            Some(part) => coordinator_takes(part, spares, watch, scenario, mail),
         }
     }
 
-    fn to_authority(&self, alloc: Global, spares: &mut Spares, mail: &Mail) -> Result<Act, NoMemory>
+    fn to_authority(&self, spares: &mut Spares, mail: &Mail) -> Result<Act, NoMemory>
         ensures { IfOk result (λ act. Moves (machine.to_authority self.now mail.now) self.now act) }
     {
-        let Reaction { append: _, letters } = self
-            .authority
-            .receive(alloc, &mut spares.letters, mail)?;
+        let Reaction { append: _, letters } = self.authority.receive(&mut spares.letters, mail)?;
         Ok(Act {
-            happened: List::new(alloc),
+            happened: List::new(spares.alloc()),
             letters,
         })
     }
 
-    fn to_master(&self, alloc: Global, spares: &mut Spares, mail: &Mail) -> Result<Act, NoMemory>
+    fn to_master(&self, spares: &mut Spares, mail: &Mail) -> Result<Act, NoMemory>
         ensures { IfOk result (λ act. Moves (machine.to_master self.now mail.now) self.now act) }
     {
-        let Reaction { append: _, letters } = self
-            .master
-            .receive(alloc, &mut spares.letters, mail)?;
+        let Reaction { append: _, letters } = self.master.receive(&mut spares.letters, mail)?;
         Ok(Act {
-            happened: List::new(alloc),
+            happened: List::new(spares.alloc()),
             letters,
         })
     }
 
     /// The master publishes the next version of an administrator's policy.
-    pub fn publish(
-        &mut self,
-        alloc: Global,
-        spares: &mut Spares,
-        admin: AdminId,
-    ) -> Result<Act, NoMemory>
+    pub fn publish(&mut self, spares: &mut Spares, admin: AdminId) -> Result<Act, NoMemory>
         requires { office.has_more self.old.master admin ≡ true }
         ensures ok { IfOk result (λ act. Moves (machine.publishes self.old admin) self.new act) }
         ensures up { SameUp self.old self.new }
@@ -411,10 +368,8 @@ impl Actors {
         match self.master.publish(admin) {
             Err(NoMore) => unreachable!(),
             Ok(version) => Ok(Act {
-                happened: spares
-                    .facts
-                    .list_of(alloc, What::Published(admin, version))?,
-                letters: List::new(alloc),
+                happened: spares.facts.list_of(What::Published(admin, version))?,
+                letters: List::new(spares.alloc()),
             }),
         }
     }
@@ -422,7 +377,6 @@ impl Actors {
     /// The master pushes the newest version of an administrator's policy to a server.
     pub fn push(
         &self,
-        alloc: Global,
         spares: &mut Spares,
         admin: AdminId,
         server: ServerId,
@@ -430,11 +384,9 @@ impl Actors {
         ensures { IfOk result (λ act.
             Moves (machine.pushes self.now admin server) self.now act) }
     {
-        let Reaction { append: _, letters } = self
-            .master
-            .push(alloc, &mut spares.letters, admin, server)?;
+        let Reaction { append: _, letters } = self.master.push(&mut spares.letters, admin, server)?;
         Ok(Act {
-            happened: List::new(alloc),
+            happened: List::new(spares.alloc()),
             letters,
         })
     }
@@ -442,7 +394,6 @@ impl Actors {
     /// A transaction's timer fires: its coordinator sends its outstanding request again.
     pub fn timer(
         &self,
-        alloc: Global,
         spares: &mut Spares,
         scenario: &Scenario,
         txn: TxnId,
@@ -450,50 +401,45 @@ impl Actors {
         ensures { IfOk result (λ act. Moves (machine.times scenario.now self.now txn) self.now act) }
     {
         match self.coordinators.get(txn.0 as usize) {
-            None => Ok(no_act(alloc)),
-            Some(part) => repeats_of(alloc, spares, scenario, part.state()),
+            None => Ok(no_act(spares.alloc())),
+            Some(part) => repeats_of(spares, scenario, part.state()),
         }
     }
 
     /// The clock moves.
-    pub fn tick(&mut self, alloc: Global, spares: &mut Spares, by: u64) -> Result<Act, NoMemory>
+    pub fn tick(&mut self, spares: &mut Spares, by: u64) -> Result<Act, NoMemory>
         requires { self.old.authority.clock + by < clock_end }
         ensures ok { IfOk result (λ act. Moves (machine.ticks self.old by) self.new act) }
         ensures up { SameUp self.old self.new }
         ensures logs { SameLogs self.old self.new }
     {
-        let happened = spares.facts.list_of(alloc, What::Ticked(by))?;
+        let happened = spares.facts.list_of(What::Ticked(by))?;
         self.authority.tick(by);
         Ok(Act {
             happened,
-            letters: List::new(alloc),
+            letters: List::new(spares.alloc()),
         })
     }
 
     /// A credential is revoked.
-    pub fn revoke(
-        &mut self,
-        alloc: Global,
-        spares: &mut Spares,
-        cred: CredId,
-    ) -> Result<Act, NoMemory>
+    pub fn revoke(&mut self, spares: &mut Spares, cred: CredId) -> Result<Act, NoMemory>
         ensures ok { IfOk result (λ act. Moves (machine.revokes self.old cred) self.new act) }
         ensures up { SameUp self.old self.new }
         ensures logs { SameLogs self.old self.new }
     {
-        let happened = spares.facts.list_of(alloc, What::Revoked(cred))?;
+        let happened = spares.facts.list_of(What::Revoked(cred))?;
         self.authority.revoke(cred);
         Ok(Act {
             happened,
-            letters: List::new(alloc),
+            letters: List::new(spares.alloc()),
         })
     }
 
     /// A transaction is submitted at a place. After NoMemory the actors are up as before, and so are their logs.
-    pub fn submit(
+    pub fn submit<W: Watch>(
         &mut self,
-        alloc: Global,
         spares: &mut Spares,
+        watch: &mut W,
         scenario: &Scenario,
         txn: TxnId,
         place: Place,
@@ -501,22 +447,23 @@ impl Actors {
         requires fits { FitLogs (machine.submission scenario.now self.old txn place).actors }
         ensures ok { IfOk result (λ act.
             Moves (machine.submission scenario.now self.old txn place) self.new act) }
+        ensures heard { OnOk result (Heard W.hears watch.old
+            (machine.begin_forces scenario.now (coordinator_at self.old txn)) watch.new) }
         ensures up { SameUp self.old self.new }
         ensures logs { OnErr result (SameLogs self.old self.new) }
     {
         match self.coordinators.get_mut(txn.0 as usize) {
             None => Ok(Act {
-                happened: spares.facts.list_of(alloc, What::Submitted(txn))?,
-                letters: List::new(alloc),
+                happened: spares.facts.list_of(What::Submitted(txn))?,
+                letters: List::new(spares.alloc()),
             }),
-            Some(part) => coordinator_submits(part, alloc, spares, scenario, txn, place),
+            Some(part) => coordinator_submits(part, spares, watch, scenario, txn, place),
         }
     }
 }
 
 /// What a coordinator sends again at its timer; nothing while it is down.
 fn repeats_of(
-    alloc: Global,
     spares: &mut Spares,
     scenario: &Scenario,
     up: Option<&Coordinator>,
@@ -526,15 +473,11 @@ fn repeats_of(
         act.letters ≡ machine.repeats_of scenario.now (option_copied up.entry)) }
 {
     match up {
-        None => Ok(no_act(alloc)),
+        None => Ok(no_act(spares.alloc())),
         Some(coordinator) => {
-            let Reaction { append: _, letters } = coordinator.timer(
-                alloc,
-                &mut spares.letters,
-                scenario,
-            )?;
+            let Reaction { append: _, letters } = coordinator.timer(&mut spares.letters, scenario)?;
             Ok(Act {
-                happened: List::new(alloc),
+                happened: List::new(spares.alloc()),
                 letters,
             })
         }

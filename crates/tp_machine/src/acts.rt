@@ -10,7 +10,8 @@ ghost use Rattle.tp_machine.specs.mirrors.Acts.{HasEitherLogs, Moves, SameLogs, 
 ghost use Rattle.tp_machine.specs.mirrors.History.{Notes, SameHistory};
 ghost use Rattle.tp_machine.specs.Machine as machine;
 ghost use Rattle.tp_machine.specs.Opening.{opening_of};
-ghost use Rattle.tp_machine.specs.Views.{cut_off, forces_at, is_cut};
+ghost use Rattle.tp_machine.specs.Moves.{forces_at, logged, received_forces};
+ghost use Rattle.tp_machine.specs.Watches.{Heard};
 ghost use Rattle.tp_machine.specs.WorldView.{machine_of, state_of};
 ghost use Rattle.tp_server.specs.Verdicts.{HasFewRules};
 ghost use Rattle.tp_offices.specs.Authority.{clock_end};
@@ -20,8 +21,9 @@ use crate::actors::{Actors, Locks};
 use crate::error::StepError;
 use crate::history::History;
 use crate::opening::Opening;
-use crate::part::{Act, alone, coordinator_boots, crash_alone, no_act, server_boots};
+use crate::part::{Act, alone, coordinator_boots, no_act, server_boots};
 use crate::spares::Spares;
+use crate::watch::Watch;
 use std::alloc::Global;
 use tp_coord::Coordinator;
 use tp_offices::{CLOCK_END, Master};
@@ -224,92 +226,13 @@ fn too_late(clock: u64, by: u64) -> Option<StepError>
     }
 }
 
-/// Does a step that is not refused. Where an actor crashes in a receipt, what that was to force is answered.
-pub fn act(
-    actors: &mut Actors,
-    history: &mut History,
-    alloc: Global,
-    spares: &mut Spares,
-    scenario: &Scenario,
-    opening: &Opening,
-    taken: &Step,
-) -> Result<Option<Record>, NoMemory>
-    requires few { HasFewRules scenario.now }
-    requires opening { opening.now ≡ opening_of scenario.now }
-    requires servers { length scenario.now.servers < 2 ^ 32 }
-    requires allowed { machine.refusal (state_of actors.old history.old) taken.now ≡ None }
-    requires fits { FitLogs
-        (machine.machine_after scenario.now (machine_of actors.old history.old)
-        (received taken.now)).state.actors }
-    ensures ok { OnOk result
-        (machine_of actors.new history.new
-        ≡ machine.machine_after scenario.now (machine_of actors.old history.old) taken.now) }
-    ensures forced { IfOk result (λ forced.
-        forced ≡ cut_off scenario.now (state_of actors.old history.old) taken.now) }
-    ensures same_history { OnErr result (SameHistory history.old history.new) }
-    ensures up { OnErr result (SameUp actors.old actors.new) }
-    ensures logs { OnErr result (HasEitherLogs actors.old
-        (machine.machine_after scenario.now (machine_of actors.old history.old) taken.now).state.actors
-        actors.new) }
-{
-    match *taken {
-        Step::Crash {
-            actor,
-            cut: Some(cut),
-        } => crash_in(actors, history, alloc, spares, scenario, actor, cut),
-        _ => {
-            act_whole(actors, history, alloc, spares, scenario, opening, taken)?;
-            Ok(None)
-        }
-    }
-}
-
-/// Does a step that is not refused, and tells nothing of it.
-pub fn act_untold(
-    actors: &mut Actors,
-    history: &mut History,
-    alloc: Global,
-    spares: &mut Spares,
-    scenario: &Scenario,
-    opening: &Opening,
-    taken: &Step,
-) -> Result<(), NoMemory>
-    requires few { HasFewRules scenario.now }
-    requires opening { opening.now ≡ opening_of scenario.now }
-    requires servers { length scenario.now.servers < 2 ^ 32 }
-    requires allowed { machine.refusal (state_of actors.old history.old) taken.now ≡ None }
-    requires fits { FitLogs
-        (machine.machine_after scenario.now (machine_of actors.old history.old)
-        (received taken.now)).state.actors }
-    ensures ok { OnOk result
-        (machine_of actors.new history.new
-        ≡ machine.machine_after scenario.now (machine_of actors.old history.old) taken.now) }
-    ensures same_history { OnErr result (SameHistory history.old history.new) }
-    ensures up { OnErr result (SameUp actors.old actors.new) }
-    ensures logs { OnErr result (HasEitherLogs actors.old
-        (machine.machine_after scenario.now (machine_of actors.old history.old) taken.now).state.actors
-        actors.new) }
-{
-    match *taken {
-        Step::Crash {
-            actor,
-            cut: Some(cut),
-        } => {
-            let forced = crash_in(actors, history, alloc, spares, scenario, actor, cut)?;
-            drop(forced);
-            Ok(())
-        }
-        _ => act_whole(actors, history, alloc, spares, scenario, opening, taken),
-    }
-}
-
-/// Does a step that is not refused, in which no actor crashes in a receipt.
+/// Does a step that is not refused. Who looks on hears of the record that the step has its actor force.
 #[inline(always)]
-fn act_whole(
+pub fn act<W: Watch>(
     actors: &mut Actors,
     history: &mut History,
-    alloc: Global,
     spares: &mut Spares,
+    watch: &mut W,
     scenario: &Scenario,
     opening: &Opening,
     taken: &Step,
@@ -317,7 +240,6 @@ fn act_whole(
     requires few { HasFewRules scenario.now }
     requires opening { opening.now ≡ opening_of scenario.now }
     requires servers { length scenario.now.servers < 2 ^ 32 }
-    requires whole { is_cut taken.now ≡ false }
     requires allowed { machine.refusal (state_of actors.old history.old) taken.now ≡ None }
     requires fits { FitLogs
         (machine.machine_after scenario.now (machine_of actors.old history.old)
@@ -325,6 +247,8 @@ fn act_whole(
     ensures ok { OnOk result
         (machine_of actors.new history.new
         ≡ machine.machine_after scenario.now (machine_of actors.old history.old) taken.now) }
+    ensures heard { OnOk result (Heard W.hears watch.old
+        (logged scenario.now (state_of actors.old history.old) taken.now) watch.new) }
     ensures same_history { OnErr result (SameHistory history.old history.new) }
     ensures up { OnErr result (SameUp actors.old actors.new) }
     ensures logs { OnErr result (HasEitherLogs actors.old
@@ -332,24 +256,27 @@ fn act_whole(
         actors.new) }
 {
     match *taken {
-        Step::Submit { txn } => submit(actors, history, alloc, spares, scenario, txn),
-        Step::Deliver { mail } => deliver(actors, history, alloc, spares, scenario, mail),
-        Step::Publish { admin } => publish(actors, history, alloc, spares, admin),
-        Step::Push { admin, server } => push(actors, history, alloc, spares, admin, server),
-        Step::Tick { by } => tick(actors, history, alloc, spares, by),
-        Step::Revoke { cred } => revoke(actors, history, alloc, spares, cred),
-        Step::Lose { mail } => lose(actors, history, alloc, spares, mail),
-        Step::Timer { txn } => timer(actors, history, alloc, spares, scenario, txn),
-        Step::Crash { actor, cut: None } => crash(actors, history, alloc, spares, actor),
-        Step::Crash { cut: Some(_), .. } => unreachable!(),
+        Step::Submit { txn } => submit(actors, history, spares, watch, scenario, txn),
+        Step::Deliver { mail } => deliver(actors, history, spares, watch, scenario, mail),
+        Step::Publish { admin } => publish(actors, history, spares, admin),
+        Step::Push { admin, server } => push(actors, history, spares, admin, server),
+        Step::Tick { by } => tick(actors, history, spares, by),
+        Step::Revoke { cred } => revoke(actors, history, spares, cred),
+        Step::Lose { mail } => lose(actors, history, spares, mail),
+        Step::Timer { txn } => timer(actors, history, spares, scenario, txn),
+        Step::Crash { actor, cut: None } => crash(actors, history, spares, actor),
+        Step::Crash {
+            actor,
+            cut: Some(cut),
+        } => crash_in(actors, history, spares, watch, scenario, actor, cut),
         Step::Boot {
             actor: Actor::Server(at),
-        } => boot_server(actors, history, alloc, spares, scenario, opening, at),
+        } => boot_server(actors, history, spares, watch, scenario, opening, at),
         Step::Boot {
             actor: Actor::Coordinator(txn),
-        } => boot_coordinator(actors, history, alloc, spares, scenario, txn),
+        } => boot_coordinator(actors, history, spares, watch, scenario, txn),
         // the offices never crash
-        Step::Boot { actor } => boots_nobody(history, alloc, spares, actor),
+        Step::Boot { actor } => boots_nobody(history, spares, actor),
     }
 }
 
@@ -357,7 +284,6 @@ fn act_whole(
 fn crash(
     actors: &mut Actors,
     history: &mut History,
-    alloc: Global,
     spares: &mut Spares,
     actor: Actor,
 ) -> Result<(), NoMemory>
@@ -368,28 +294,27 @@ fn crash(
     ensures same_history { OnErr result (SameHistory history.old history.new) }
     ensures same_actors { OnErr result (actors.new ≡ actors.old) }
 {
-    let act = alone(alloc, &mut spares.facts, What::Crashed(actor))?;
+    let act = alone(&mut spares.facts, What::Crashed(actor))?;
     history.note(
         spares,
         Step::Crash { actor, cut: None },
         act.happened,
         act.letters,
     )?;
-    actors.goes_down(alloc, actor);
+    actors.goes_down(spares.alloc(), actor);
     Ok(())
 }
 
-/// An actor crashes in the receipt of a mail. Its log has what is left of it before that is noted. What the receipt was to force
-/// is answered.
-fn crash_in(
+/// An actor crashes in the receipt of a mail. Its log has what is left of it before that is noted.
+fn crash_in<W: Watch>(
     actors: &mut Actors,
     history: &mut History,
-    alloc: Global,
     spares: &mut Spares,
+    watch: &mut W,
     scenario: &Scenario,
     actor: Actor,
     cut: Cut,
-) -> Result<Option<Record>, NoMemory>
+) -> Result<(), NoMemory>
     requires few { HasFewRules scenario.now }
     requires sent { cut.mail < length history.old.mails }
     requires its { machine.cut_elsewhere history.old.mails actor (Some cut) ≡ None }
@@ -399,75 +324,62 @@ fn crash_in(
         (machine_of actors.new history.new
         ≡ machine.machine_after scenario.now (machine_of actors.old history.old)
         (step.Crash actor (Some cut))) }
-    ensures forced { IfOk result (λ forced.
-        forced ≡ cut_off scenario.now (state_of actors.old history.old)
-        (step.Crash actor (Some cut))) }
+    ensures heard { OnOk result (Heard W.hears watch.old
+        (logged scenario.now (state_of actors.old history.old) (step.Crash actor (Some cut)))
+        watch.new) }
     ensures same_history { OnErr result (SameHistory history.old history.new) }
     ensures up { OnErr result (SameUp actors.old actors.new) }
     ensures logs { OnErr result (HasEitherLogs actors.old
         (machine.crashes scenario.now actors.old history.old.mails actor (Some cut)).actors
         actors.new) }
 {
-    let (act, forced) = receive_cut(
-        actors,
-        alloc,
-        spares,
-        scenario,
-        history.mails.as_slice(),
-        actor,
-        cut,
-    )?;
+    let mails = history.mails.as_slice();
+    let act = receive_cut(actors, spares, watch, scenario, mails, actor, cut)?;
     let taken = Step::Crash {
         actor,
         cut: Some(cut),
     };
-    match history.note(spares, taken, act.happened, act.letters) {
-        Ok(()) => {
-            history.mark(cut.mail as usize);
-            actors.goes_down(alloc, actor);
-            Ok(forced)
-        }
-        Err(NoMemory) => {
-            drop(forced);
-            Err(NoMemory)
-        }
-    }
+    history.note(spares, taken, act.happened, act.letters)?;
+    history.mark(cut.mail as usize);
+    actors.goes_down(spares.alloc(), actor);
+    Ok(())
 }
 
-fn receive_cut(
+fn receive_cut<W: Watch>(
     actors: &mut Actors,
-    alloc: Global,
     spares: &mut Spares,
+    watch: &mut W,
     scenario: &Scenario,
     mails: &[Mail],
     actor: Actor,
     cut: Cut,
-) -> Result<(Act, Option<Record>), NoMemory>
+) -> Result<Act, NoMemory>
     requires few { HasFewRules scenario.now }
     requires sent { cut.mail < length mails.now }
     requires its { machine.cut_elsewhere mails.now actor (Some cut) ≡ None }
     requires fits { FitLogs
         (machine.delivery scenario.now actors.old (slice_get mails.now cut.mail)).actors }
-    ensures ok { IfOk result (λ made.
+    ensures ok { IfOk result (λ act.
         Moves (machine.crashes scenario.now actors.old mails.now actor (Some cut))
-        (with_down actors.new actor) made.0) }
-    ensures forced { IfOk result (λ made. made.1
-        ≡ option_and_then (forces_at scenario.now actors.old actor) (slice_get mails.now cut.mail)) }
+        (with_down actors.new actor) act) }
+    ensures heard { OnOk result (Heard W.hears watch.old
+        (option_and_then (forces_at scenario.now actors.old actor) (slice_get mails.now cut.mail))
+        watch.new) }
     ensures up { SameUp actors.old actors.new }
     ensures logs { OnErr result (SameLogs actors.old actors.new) }
 {
     match mails.get(cut.mail as usize) {
-        None => crash_alone(alloc, &mut spares.facts, actor),
-        Some(found) => actors.crash_in(alloc, spares, scenario, actor, found, cut),
+        None => alone(&mut spares.facts, What::Crashed(actor)),
+        Some(found) => actors.crash_in(spares, watch, scenario, actor, found, cut),
     }
 }
 
 /// A server boots by its log. It comes up last, where nothing can be refused any more.
-fn boot_server(
+fn boot_server<W: Watch>(
     actors: &mut Actors,
     history: &mut History,
-    alloc: Global,
     spares: &mut Spares,
+    watch: &mut W,
     scenario: &Scenario,
     opening: &Opening,
     at: ServerId,
@@ -478,6 +390,8 @@ fn boot_server(
         (machine_of actors.new history.new
         ≡ machine.machine_after scenario.now (machine_of actors.old history.old)
         (step.Boot (actor.Server at))) }
+    ensures heard { OnOk result (Heard W.hears watch.old
+        (logged scenario.now (state_of actors.old history.old) (step.Boot (actor.Server at))) watch.new) }
     ensures same_history { OnErr result (SameHistory history.old history.new) }
     ensures up { OnErr result (SameUp actors.old actors.new) }
     ensures logs { OnErr result (HasEitherLogs actors.old
@@ -486,14 +400,15 @@ fn boot_server(
 {
     let actor = Actor::Server(at);
     let Some(part) = actors.servers.get_mut(at.0 as usize) else {
-        return boots_nobody(history, alloc, spares, actor);
+        return boots_nobody(history, spares, actor);
     };
+    let alloc = spares.alloc();
     let own = both(
         opening.share(),
         Locks::opened(alloc, scenario.items.len(), first_item(scenario, at)),
     );
     let (own, locks) = own?;
-    let (state, act) = server_boots(part, alloc, scenario, at, own, locks)?;
+    let (state, act) = server_boots(part, alloc, watch, scenario, at, own, locks)?;
     match history.note(spares, Step::Boot { actor }, act.happened, act.letters) {
         Ok(()) => {
             part.comes_up(state);
@@ -507,11 +422,11 @@ fn boot_server(
 }
 
 /// A coordinator boots by its log, in the same way.
-fn boot_coordinator(
+fn boot_coordinator<W: Watch>(
     actors: &mut Actors,
     history: &mut History,
-    alloc: Global,
     spares: &mut Spares,
+    watch: &mut W,
     scenario: &Scenario,
     txn: TxnId,
 ) -> Result<(), NoMemory>
@@ -521,6 +436,8 @@ fn boot_coordinator(
         (machine_of actors.new history.new
         ≡ machine.machine_after scenario.now (machine_of actors.old history.old)
         (step.Boot (actor.Coordinator txn))) }
+    ensures heard { OnOk result (Heard W.hears watch.old
+        (logged scenario.now (state_of actors.old history.old) (step.Boot (actor.Coordinator txn))) watch.new) }
     ensures same_history { OnErr result (SameHistory history.old history.new) }
     ensures up { OnErr result (SameUp actors.old actors.new) }
     ensures logs { OnErr result (HasEitherLogs actors.old
@@ -529,9 +446,9 @@ fn boot_coordinator(
 {
     let actor = Actor::Coordinator(txn);
     let Some(part) = actors.coordinators.get_mut(txn.0 as usize) else {
-        return boots_nobody(history, alloc, spares, actor);
+        return boots_nobody(history, spares, actor);
     };
-    let (state, act) = coordinator_boots(part, alloc, scenario, txn)?;
+    let (state, act) = coordinator_boots(part, spares.alloc(), watch, scenario, txn)?;
     match history.note(spares, Step::Boot { actor }, act.happened, act.letters) {
         Ok(()) => {
             part.comes_up(state);
@@ -545,15 +462,11 @@ fn boot_coordinator(
 }
 
 /// Nobody boots.
-fn boots_nobody(
-    history: &mut History,
-    alloc: Global,
-    spares: &mut Spares,
-    actor: Actor,
-) -> Result<(), NoMemory>
+fn boots_nobody(history: &mut History, spares: &mut Spares, actor: Actor) -> Result<(), NoMemory>
     ensures ok { OnOk result (Notes history.old history.new (step.Boot actor) [] []) }
     ensures same_history { OnErr result (SameHistory history.old history.new) }
 {
+    let alloc = spares.alloc();
     history.note(
         spares,
         Step::Boot { actor },
@@ -562,11 +475,11 @@ fn boots_nobody(
     )
 }
 
-fn submit(
+fn submit<W: Watch>(
     actors: &mut Actors,
     history: &mut History,
-    alloc: Global,
     spares: &mut Spares,
+    watch: &mut W,
     scenario: &Scenario,
     txn: TxnId,
 ) -> Result<(), NoMemory>
@@ -576,21 +489,24 @@ fn submit(
         (machine_of actors.new history.new
         ≡ machine.machine_after scenario.now (machine_of actors.old history.old)
         (step.Submit txn)) }
+    ensures heard { OnOk result (Heard W.hears watch.old
+        (logged scenario.now (state_of actors.old history.old) (step.Submit txn)) watch.new) }
     ensures same_history { OnErr result (SameHistory history.old history.new) }
     ensures up { SameUp actors.old actors.new }
     ensures logs { OnErr result (HasEitherLogs actors.old
         (machine.submission scenario.now actors.old txn (length history.old.steps)).actors
         actors.new) }
 {
-    let act = actors.submit(alloc, spares, scenario, txn, history.steps.len() as u64)?;
+    let place = history.steps.len() as u64;
+    let act = actors.submit(spares, watch, scenario, txn, place)?;
     history.note(spares, Step::Submit { txn }, act.happened, act.letters)
 }
 
-fn deliver(
+fn deliver<W: Watch>(
     actors: &mut Actors,
     history: &mut History,
-    alloc: Global,
     spares: &mut Spares,
+    watch: &mut W,
     scenario: &Scenario,
     mail: u64,
 ) -> Result<(), NoMemory>
@@ -602,20 +518,16 @@ fn deliver(
         (machine_of actors.new history.new
         ≡ machine.machine_after scenario.now (machine_of actors.old history.old)
         (step.Deliver mail)) }
+    ensures heard { OnOk result (Heard W.hears watch.old
+        (logged scenario.now (state_of actors.old history.old) (step.Deliver mail)) watch.new) }
     ensures same_history { OnErr result (SameHistory history.old history.new) }
     ensures up { SameUp actors.old actors.new }
     ensures logs { OnErr result (HasEitherLogs actors.old
         (machine.delivery scenario.now actors.old (slice_get history.old.mails mail)).actors
         actors.new) }
 {
-    let act = receive(
-        actors,
-        alloc,
-        spares,
-        scenario,
-        history.mails.as_slice(),
-        mail,
-    )?;
+    let mails = history.mails.as_slice();
+    let act = receive(actors, spares, watch, scenario, mails, mail)?;
     history.note(spares, Step::Deliver { mail }, act.happened, act.letters)?;
     history.mark(mail as usize);
     Ok(())
@@ -624,7 +536,6 @@ fn deliver(
 fn publish(
     actors: &mut Actors,
     history: &mut History,
-    alloc: Global,
     spares: &mut Spares,
     admin: AdminId,
 ) -> Result<(), NoMemory>
@@ -637,14 +548,13 @@ fn publish(
     ensures up { SameUp actors.old actors.new }
     ensures logs { SameLogs actors.old actors.new }
 {
-    let act = actors.publish(alloc, spares, admin)?;
+    let act = actors.publish(spares, admin)?;
     history.note(spares, Step::Publish { admin }, act.happened, act.letters)
 }
 
 fn push(
     actors: &Actors,
     history: &mut History,
-    alloc: Global,
     spares: &mut Spares,
     admin: AdminId,
     server: ServerId,
@@ -655,7 +565,7 @@ fn push(
         (machine.pushes actors.now admin server)) }
     ensures same_history { OnErr result (SameHistory history.old history.new) }
 {
-    let act = actors.push(alloc, spares, admin, server)?;
+    let act = actors.push(spares, admin, server)?;
     history.note(
         spares,
         Step::Push { admin, server },
@@ -667,7 +577,6 @@ fn push(
 fn lose(
     actors: &Actors,
     history: &mut History,
-    alloc: Global,
     spares: &mut Spares,
     mail: u64,
 ) -> Result<(), NoMemory>
@@ -677,7 +586,7 @@ fn lose(
         ≡ machine.machine_after_loss (machine_of actors.now history.old) mail) }
     ensures same_history { OnErr result (SameHistory history.old history.new) }
 {
-    let act = alone(alloc, &mut spares.facts, What::Lost(mail))?;
+    let act = alone(&mut spares.facts, What::Lost(mail))?;
     history.note(spares, Step::Lose { mail }, act.happened, act.letters)?;
     history.mark(mail as usize);
     Ok(())
@@ -686,7 +595,6 @@ fn lose(
 fn timer(
     actors: &Actors,
     history: &mut History,
-    alloc: Global,
     spares: &mut Spares,
     scenario: &Scenario,
     txn: TxnId,
@@ -697,14 +605,13 @@ fn timer(
         (machine.times scenario.now actors.now txn)) }
     ensures same_history { OnErr result (SameHistory history.old history.new) }
 {
-    let act = actors.timer(alloc, spares, scenario, txn)?;
+    let act = actors.timer(spares, scenario, txn)?;
     history.note(spares, Step::Timer { txn }, act.happened, act.letters)
 }
 
 fn tick(
     actors: &mut Actors,
     history: &mut History,
-    alloc: Global,
     spares: &mut Spares,
     by: u64,
 ) -> Result<(), NoMemory>
@@ -717,14 +624,13 @@ fn tick(
     ensures up { SameUp actors.old actors.new }
     ensures logs { SameLogs actors.old actors.new }
 {
-    let act = actors.tick(alloc, spares, by)?;
+    let act = actors.tick(spares, by)?;
     history.note(spares, Step::Tick { by }, act.happened, act.letters)
 }
 
 fn revoke(
     actors: &mut Actors,
     history: &mut History,
-    alloc: Global,
     spares: &mut Spares,
     cred: CredId,
 ) -> Result<(), NoMemory>
@@ -736,14 +642,14 @@ fn revoke(
     ensures up { SameUp actors.old actors.new }
     ensures logs { SameLogs actors.old actors.new }
 {
-    let act = actors.revoke(alloc, spares, cred)?;
+    let act = actors.revoke(spares, cred)?;
     history.note(spares, Step::Revoke { cred }, act.happened, act.letters)
 }
 
-fn receive(
+fn receive<W: Watch>(
     actors: &mut Actors,
-    alloc: Global,
     spares: &mut Spares,
+    watch: &mut W,
     scenario: &Scenario,
     mails: &[Mail],
     mail: u64,
@@ -754,11 +660,14 @@ fn receive(
     ensures ok { IfOk result (λ act.
         Moves
         (machine.delivery scenario.now actors.old (slice_get mails.now mail)) actors.new act) }
+    ensures heard { OnOk result (Heard W.hears watch.old
+        (option_and_then (received_forces scenario.now actors.old) (slice_get mails.now mail))
+        watch.new) }
     ensures up { SameUp actors.old actors.new }
     ensures logs { OnErr result (SameLogs actors.old actors.new) }
 {
     match mails.get(mail as usize) {
-        None => Ok(no_act(alloc)),
-        Some(found) => actors.receive(alloc, spares, scenario, found),
+        None => Ok(no_act(spares.alloc())),
+        Some(found) => actors.receive(spares, watch, scenario, found),
     }
 }

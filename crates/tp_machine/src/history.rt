@@ -60,7 +60,7 @@ impl History {
     pub fn first_pending<T: Tally>(&self, tally: &mut T) -> Option<u64>
         ensures value { result ≡ slice_get (marked 0 self.now.pending) 0 }
         ensures sent { IfSome result (λ mail. mail < length self.now.mails) }
-        ensures counted { T.counted tally.new ≤ T.counted tally.old + 1 }
+        ensures counted { T.counted tally.new ≡ T.counted tally.old + T.weight }
     {
         match self.pending.first(tally) {
             None => None,

@@ -21,7 +21,7 @@
 //!   `log_end`, `records_behind`)
 //! - A crash in a receipt tells the record that this was to force (`World::step_with_cut`: `forced`; else as `step`)
 //! - The oldest undelivered mail is the first of the undelivered ones, and it was sent; it is told by a visit of
-//!   at most one node (`World::oldest`: `value`, `sent`, `counted`)
+//!   one node (`World::oldest`: `value`, `sent`, `counted`)
 //!
 //! `World::start` asks that the scenario is valid (`valid`), and that no run of it makes a record that is too
 //! long for a log (`fit`), which holds of every such scenario (`tp_runs`); `World::step` that what the step names
@@ -31,18 +31,26 @@
 
 mod actors;
 mod acts;
-mod disks;
 mod error;
 mod history;
+mod laws;
+mod moves;
 mod opening;
 mod part;
-mod past;
 mod spares;
+mod watch;
 mod world;
 
 pub use actors::{Actors, Locks};
 pub use error::StepError;
 pub use history::History;
+pub use laws::steps_move_one_actor;
+pub use moves::moved_by;
 pub use opening::Opening;
-pub use part::{Act, Part};
+pub use part::{
+    Act, Part, alone, coordinator_begins, coordinator_boots, coordinator_takes, no_act,
+    server_boots, server_takes,
+};
+pub use spares::Spares;
+pub use watch::{Nobody, Watch};
 pub use world::World;

@@ -1,17 +1,17 @@
 //! An actor with its log, and what it does to both when it acts.
-ghost use Rattle.std.specs.Prelude.{◌≡◌, ◌+◌, ◌<◌, ◌≤◌, ◌^◌, [], ◌∷◌, ◌++◌, List, Some, None, false, true, length, IfOk, IfSome, OnErr, OnOk};
+ghost use Rattle.std.specs.Prelude.{◌≡◌, ◌+◌, ◌<◌, ◌≤◌, ◌^◌, [], ◌∷◌, ◌++◌, List, Some, None, length, IfOk, IfSome, OnErr, OnOk};
 ghost use Rattle.std.specs.Option.{option_copied, option_map_or};
 ghost use Rattle.std.specs.Vec.{vec_capacity, vec_len};
 ghost use Rattle.tp_coord.specs.Booted.{boot_row};
+ghost use Rattle.tp_actor_log.specs.Disks.{IsDiskOf};
+ghost use Rattle.tp_actor_log.specs.Records.{FitsLog, cut_record, log_with};
 ghost use Rattle.tp_lock.specs.Rule as lock;
-ghost use Rattle.tp_machine.specs.Fits.{FitsLog, HasShortLog};
-ghost use Rattle.tp_log.specs.Images.{blocks};
-ghost use Rattle.tp_machine.specs.Logs.{IsDiskOf};
-ghost use Rattle.tp_machine.specs.Opening.{opening_of};
-ghost use Rattle.tp_machine.specs.Views.{StandsAt};
-ghost use Rattle.tp_machine.specs.mirrors.Acts as acts;
-ghost use Rattle.tp_machine.specs.mirrors.Acts.{Acts, Boots};
+ghost use Rattle.tp_machine.specs.Acts.{Acts, Boots};
+ghost use Rattle.tp_machine.specs.Fits.{HasShortLog};
 ghost use Rattle.tp_machine.specs.Machine as machine;
+ghost use Rattle.tp_machine.specs.Opening.{opening_of};
+ghost use Rattle.tp_machine.specs.Watches.{Heard};
+ghost use Rattle.tp_machine.specs.mirrors.Acts as acts;
 ghost use Rattle.tp_model.specs.SerialRun.{opening_store};
 ghost use Rattle.tp_model.specs.Words.actor;
 ghost use Rattle.tp_model.specs.Words.what;
@@ -20,16 +20,16 @@ ghost use Rattle.tp_recover.specs.Kept.{kept};
 ghost use Rattle.tp_server.specs.Verdicts.{HasFewRules};
 ghost use Rattle.tp_types.specs.Effect.{Gives};
 
-use crate::disks::{force, tear};
 use crate::opening::Opening;
-use crate::past::Past;
 use crate::spares::Spares;
+use crate::watch::Watch;
 use std::alloc::Global;
 use std::marker::Model;
+use tp_actor_log::{ActorLog, Past};
 use tp_coord::Coordinator;
 use tp_device::MemoryDisk;
 use tp_lock::LockTable;
-use tp_log::Log;
+use tp_log::is_kept;
 use tp_recover::{Kept, kept_apart};
 use tp_server::Server;
 use tp_store::{OpeningValues, Values, first_item};
@@ -38,25 +38,19 @@ use tp_types::{
     TryClone, TxnId, What,
 };
 
-/// An actor's state, which is None while it is down, and its write-ahead log on a disk of its own in memory, on which
-/// nothing is unsynced between two calls. Contracts see the log as the list of records that the bytes of the disk give.
+/// An actor's state, which is None while it is down, and its log. Contracts see the log as the list of its records.
 #[derive(Drop)]
 pub struct Part<S> {
     up: Option<S>,
-    log: Log<MemoryDisk>,
-    past: Past,
+    records: ActorLog,
 }
 
 impl<S> Model for Part<S> {
     ghost use Rattle.tp_machine.specs.Parts as parts;
-    ghost use Rattle.tp_machine.specs.mirrors.Disks.{records_on};
-    ghost use Rattle.tp_machine.specs.mirrors.Pasts.{IsReadOf};
 
     ghost Value = { parts.Part S };
 
-    ghost view = { λ p. record { up = p.up; log = records_on p.log } };
-
-    ghost invariant = { λ p. IsReadOf p.past p.log };
+    ghost view = { λ p. record { up = p.up; log = p.records } };
 }
 
 impl<S: Drop> Part<S> {
@@ -64,12 +58,11 @@ impl<S: Drop> Part<S> {
     pub fn opened(alloc: Global, state: S) -> Result<Part<S>, NoMemory>
         ensures { IfOk result (λ part. part ≡ machine.opened_part state) }
     {
-        match Log::fresh(alloc) {
+        match ActorLog::fresh(alloc) {
             Err(NoMemory) => Err(NoMemory),
-            Ok(log) => Ok(Part {
+            Ok(records) => Ok(Part {
                 up: Some(state),
-                log,
-                past: Past::unread(alloc),
+                records,
             }),
         }
     }
@@ -77,15 +70,10 @@ impl<S: Drop> Part<S> {
     /// Forces what an act gives to the actor's log: once it is answered the record outlives a crash.
     pub fn force(&mut self, alloc: Global, append: &Option<Record>) -> Result<(), NoMemory>
         requires { IfSome append.now FitsLog }
-        ensures ok { OnOk result (self.new ≡ record self.old {
-          log = machine.log_with self.old.log append.now;
-        }) }
+        ensures ok { OnOk result (self.new ≡ record self.old { log = log_with self.old.log append.now }) }
         ensures err { OnErr result (self.new ≡ self.old) }
     {
-        match append {
-            None => Ok(()),
-            Some(forced) => force(&mut self.log, alloc, forced),
-        }
+        self.records.force(alloc, append)
     }
 
     /// The disk crashes as what an act gives is forced: so many of its calls pass, and what is then unsynced reads the fill. The
@@ -93,21 +81,18 @@ impl<S: Drop> Part<S> {
     pub fn cut(&mut self, alloc: Global, append: &Option<Record>, cut: Cut) -> Result<(), NoMemory>
         requires { IfSome append.now FitsLog }
         ensures ok { OnOk result (self.new ≡ record self.old {
-          log = machine.log_with self.old.log (machine.cut_record cut append.now);
+          log = log_with self.old.log (cut_record cut append.now);
         }) }
         ensures err { OnErr result (self.new ≡ self.old) }
     {
-        match append {
-            None => Ok(()),
-            Some(forced) => tear(&mut self.log, alloc, forced, cut),
-        }
+        self.records.cut(alloc, append, cut)
     }
 
     /// The actor goes down, and its disk crashes. Its state is gone, and its log stays. It takes no memory.
     pub fn crash(&mut self, alloc: Global)
         ensures { self.new ≡ acts.down_part self.old }
     {
-        self.log.crash(alloc);
+        self.records.crash(alloc);
         self.up = None;
     }
 
@@ -125,16 +110,11 @@ impl<S: Drop> Part<S> {
         ensures epoch { IfOk result (λ made. made.epoch + 1 < 2 ^ 64) }
         ensures same { self.new ≡ self.old }
     {
-        self.past.read_on(alloc, &mut self.log)?;
         let values = Values::over(alloc, opening, first_item(scenario, server))?;
-        kept_apart(
-            alloc,
-            scenario,
-            server,
-            values,
-            &self.past.others,
-            self.past.boots,
-        )
+        let past = self.records.read(alloc)?;
+        let made = kept_apart(alloc, scenario, server, values, &past.others, past.boots);
+        self.records.keep(past);
+        made
     }
 
     /// The actor comes up with this state.
@@ -148,35 +128,14 @@ impl<S: Drop> Part<S> {
     pub fn disk(&self) -> &MemoryDisk
         ensures { IsDiskOf result.now self.now.log }
     {
-        self.log.disk()
+        self.records.disk()
     }
 
     /// The records that the disk gives now, for who looks on.
     pub fn records(&self, alloc: Global) -> Result<List<Record>, NoMemory>
         ensures { IfOk result (λ records. records ≡ self.now.log) }
     {
-        self.log.records(alloc)
-    }
-
-    /// The place in bytes where the log ends.
-    pub fn end(&self, alloc: Global) -> Result<u64, NoMemory>
-        ensures { IfOk result (λ place. place ≡ length (blocks self.now.log)) }
-    {
-        if self.log.is_open() {
-            return Ok(self.log.gate());
-        }
-        // a crash has closed it: it ends at what was read of it, or behind that
-        Ok(self.log.behind(alloc, self.past.place)?.end)
-    }
-
-    /// The records from a place on at which the log has ended.
-    pub fn records_behind(&self, alloc: Global, place: u64) -> Result<List<Record>, NoMemory>
-        requires { (before : List Record) × (more : List Record)
-            × StandsAt self.now.log place before more }
-        ensures { IfOk result (λ records. (before more : List Record)
-            → StandsAt self.now.log place before more → records ≡ more) }
-    {
-        Ok(self.log.behind(alloc, place)?.records)
+        self.records.records(alloc)
     }
 
     /// Whether the actor is down.
@@ -207,8 +166,19 @@ impl Part<Coordinator> {
             Gives (boot_row scenario.now txn self.old.log) made.0 made.1) }
         ensures same { self.new ≡ self.old }
     {
-        self.past.read_on(alloc, &mut self.log)?;
-        Coordinator::booted(alloc, scenario, txn, &self.past.others)
+        let past = self.records.read(alloc)?;
+        let made = Coordinator::booted(alloc, scenario, txn, &past.others);
+        self.records.keep(past);
+        made
+    }
+
+    /// The submission that the coordinator has begun took place there: what it sends from now on names that age.
+    pub fn placed(&mut self, place: Place)
+        ensures { self.new ≡ machine.placed_part place self.old }
+    {
+        if let Some(coordinator) = &mut self.up {
+            coordinator.placed(place);
+        }
     }
 }
 
@@ -230,31 +200,43 @@ pub fn no_act(alloc: Global) -> Act
 }
 
 /// This happened, and no actor acted.
-pub fn alone(alloc: Global, spare: &mut Spare<What>, happened: What) -> Result<Act, NoMemory>
+pub fn alone(spare: &mut Spare<What>, happened: What) -> Result<Act, NoMemory>
     ensures { IfOk result (λ act. act ≡ record { happened = happened ∷ []; letters = [] }) }
 {
+    let alloc = spare.alloc();
     Ok(Act {
-        happened: spare.list_of(alloc, happened)?,
+        happened: spare.list_of(happened)?,
         letters: List::new(alloc),
     })
 }
 
+/// Who looks on hears of a record that is to be forced, if there is one.
+#[inline(always)]
+fn hear<W: Watch>(watch: &mut W, alloc: Global, append: &Option<Record>)
+    ensures { Heard W.hears watch.old append.now watch.new }
+{
+    if let Some(forced) = append {
+        watch.hear(alloc, forced);
+    }
+}
+
 /// What an act gives is forced, where what happened in it was told. After NoMemory nothing was forced.
-fn noted<S: Drop>(
+fn noted<S: Drop, W: Watch>(
     part: &mut Part<S>,
+    watch: &mut W,
     alloc: Global,
     append: &Option<Record>,
     happened: Result<List<What>, NoMemory>,
 ) -> Result<List<What>, NoMemory>
     requires { IfSome append.now FitsLog }
-    ensures forced { OnOk result (part.new ≡ record part.old {
-      log = machine.log_with part.old.log append.now;
-    }) }
+    ensures forced { OnOk result (part.new ≡ record part.old { log = log_with part.old.log append.now }) }
     ensures told { (facts : List What) → IfOk happened (λ told. told ≡ facts)
         → IfOk result (λ told. told ≡ facts) }
+    ensures heard { OnOk result (Heard W.hears watch.old append.now watch.new) }
     ensures err { OnErr result (part.new ≡ part.old) }
 {
     let happened = happened?;
+    hear(watch, alloc, append);
     match part.force(alloc, append) {
         Ok(()) => Ok(happened),
         Err(NoMemory) => {
@@ -265,8 +247,9 @@ fn noted<S: Drop>(
 }
 
 /// The same where the disk crashes as that is forced.
-fn torn<S: Drop>(
+fn torn<S: Drop, W: Watch>(
     part: &mut Part<S>,
+    watch: &mut W,
     alloc: Global,
     append: &Option<Record>,
     happened: Result<List<What>, NoMemory>,
@@ -274,13 +257,15 @@ fn torn<S: Drop>(
 ) -> Result<List<What>, NoMemory>
     requires { IfSome append.now FitsLog }
     ensures torn { OnOk result (part.new ≡ record part.old {
-      log = machine.log_with part.old.log (machine.cut_record cut append.now);
+      log = log_with part.old.log (cut_record cut append.now);
     }) }
     ensures told { (facts : List What) → IfOk happened (λ told. told ≡ facts)
         → IfOk result (λ told. told ≡ facts) }
+    ensures heard { OnOk result (Heard W.hears watch.old append.now watch.new) }
     ensures err { OnErr result (part.new ≡ part.old) }
 {
     let happened = happened?;
+    hear(watch, alloc, append);
     match part.cut(alloc, append, cut) {
         Ok(()) => Ok(happened),
         Err(NoMemory) => {
@@ -291,10 +276,10 @@ fn torn<S: Drop>(
 }
 
 /// A server receives a mail. After NoMemory nothing is said of its state, but that it is up as before; its log is as before.
-pub fn server_takes<L: LockTable + Drop>(
+pub fn server_takes<L: LockTable + Drop, W: Watch>(
     part: &mut Part<Server<L>>,
-    alloc: Global,
     spares: &mut Spares,
+    watch: &mut W,
     scenario: &Scenario,
     at: ServerId,
     mail: &Mail,
@@ -303,15 +288,18 @@ pub fn server_takes<L: LockTable + Drop>(
     requires fits { HasShortLog (machine.server_takes scenario.now at part.old mail.now).part }
     ensures ok { IfOk result (λ act.
         Acts (machine.server_takes scenario.now at part.old mail.now) part.new act) }
+    ensures heard { OnOk result (Heard W.hears watch.old
+        (machine.server_forces scenario.now part.old.up mail.now) watch.new) }
     ensures up { machine.is_part_down part.new ≡ machine.is_part_down part.old }
     ensures log { OnErr result (part.new.log ≡ part.old.log) }
 {
+    let alloc = spares.alloc();
     let Some(server) = &mut part.up else {
         return Ok(no_act(alloc));
     };
-    let Reaction { append, letters } = server.receive(alloc, &mut spares.letters, scenario, mail)?;
-    let happened = server_facts(alloc, &mut spares.facts, at, &append);
-    match noted(part, alloc, &append, happened) {
+    let Reaction { append, letters } = server.receive(&mut spares.letters, scenario, mail)?;
+    let happened = server_facts(&mut spares.facts, at, &append);
+    match noted(part, watch, alloc, &append, happened) {
         Ok(happened) => {
             drop(append);
             Ok(Act { happened, letters })
@@ -326,29 +314,26 @@ pub fn server_takes<L: LockTable + Drop>(
 
 /// A coordinator receives a mail. After NoMemory nothing is said of its state, but that it is up as before; its log is as
 /// before.
-pub fn coordinator_takes(
+pub fn coordinator_takes<W: Watch>(
     part: &mut Part<Coordinator>,
-    alloc: Global,
     spares: &mut Spares,
+    watch: &mut W,
     scenario: &Scenario,
     mail: &Mail,
 ) -> Result<Act, NoMemory>
     requires fits { HasShortLog (machine.coordinator_takes scenario.now part.old mail.now).part }
     ensures ok { IfOk result (λ act.
         Acts (machine.coordinator_takes scenario.now part.old mail.now) part.new act) }
+    ensures heard { OnOk result (Heard W.hears watch.old
+        (machine.coordinator_forces scenario.now part.old.up mail.now) watch.new) }
     ensures up { machine.is_part_down part.new ≡ machine.is_part_down part.old }
     ensures log { OnErr result (part.new.log ≡ part.old.log) }
 {
     let Some(coordinator) = &mut part.up else {
-        return Ok(no_act(alloc));
+        return Ok(no_act(spares.alloc()));
     };
-    let Reaction { append, letters } = coordinator.receive(
-        alloc,
-        &mut spares.letters,
-        scenario,
-        mail,
-    )?;
-    match forced_with_room(part, alloc, &mut spares.facts, &append) {
+    let Reaction { append, letters } = coordinator.receive(&mut spares.letters, scenario, mail)?;
+    match forced_with_room(part, watch, &mut spares.facts, &append) {
         Ok(room) => {
             let happened = coordinator_facts_in(room, append);
             Ok(Act { happened, letters })
@@ -361,29 +346,30 @@ pub fn coordinator_takes(
     }
 }
 
-/// A coordinator's transaction is submitted at a place. After NoMemory it is up as before, and its log is as before.
-pub fn coordinator_submits(
+/// A coordinator begins its transaction, wherever that is: its age is told to it once the place is known (`Part::placed`).
+/// After NoMemory it is up as before, and its log is as before.
+pub fn coordinator_begins<W: Watch>(
     part: &mut Part<Coordinator>,
-    alloc: Global,
     spares: &mut Spares,
+    watch: &mut W,
     scenario: &Scenario,
     txn: TxnId,
-    place: Place,
 ) -> Result<Act, NoMemory>
-    requires fits { HasShortLog
-        (machine.coordinator_submits scenario.now part.old txn place).part }
+    requires fits { HasShortLog (machine.coordinator_begins scenario.now part.old txn).part }
     ensures ok { IfOk result (λ act.
-        Acts (machine.coordinator_submits scenario.now part.old txn place) part.new act) }
+        Acts (machine.coordinator_begins scenario.now part.old txn) part.new act) }
+    ensures heard { OnOk result (Heard W.hears watch.old
+        (machine.begin_forces scenario.now part.old.up) watch.new) }
     ensures up { machine.is_part_down part.new ≡ machine.is_part_down part.old }
     ensures log { OnErr result (part.new.log ≡ part.old.log) }
 {
+    let alloc = spares.alloc();
     let Some(coordinator) = &mut part.up else {
-        return alone(alloc, &mut spares.facts, What::Submitted(txn));
+        return alone(&mut spares.facts, What::Submitted(txn));
     };
-    let Reaction { append, letters } = coordinator.submit(alloc, &mut spares.letters, scenario)?;
-    coordinator.placed(place);
-    let happened = with_decision(alloc, &mut spares.facts, What::Submitted(txn), &append);
-    match noted(part, alloc, &append, happened) {
+    let Reaction { append, letters } = coordinator.submit(&mut spares.letters, scenario)?;
+    let happened = with_decision(&mut spares.facts, What::Submitted(txn), &append);
+    match noted(part, watch, alloc, &append, happened) {
         Ok(happened) => {
             drop(append);
             Ok(Act { happened, letters })
@@ -396,57 +382,62 @@ pub fn coordinator_submits(
     }
 }
 
-/// A crash in a receipt, by which nothing happens but the crash.
-pub fn crash_alone(
-    alloc: Global,
-    spare: &mut Spare<What>,
-    actor: Actor,
-) -> Result<(Act, Option<Record>), NoMemory>
-    ensures crash { IfOk result (λ made.
-        made.0 ≡ record { happened = what.Crashed actor ∷ []; letters = [] }) }
-    ensures forced { IfOk result (λ made. made.1 ≡ None) }
+/// A coordinator's transaction is submitted at a place. After NoMemory it is up as before, and its log is as before.
+pub fn coordinator_submits<W: Watch>(
+    part: &mut Part<Coordinator>,
+    spares: &mut Spares,
+    watch: &mut W,
+    scenario: &Scenario,
+    txn: TxnId,
+    place: Place,
+) -> Result<Act, NoMemory>
+    requires fits { HasShortLog
+        (machine.coordinator_submits scenario.now part.old txn place).part }
+    ensures ok { IfOk result (λ act.
+        Acts (machine.coordinator_submits scenario.now part.old txn place) part.new act) }
+    ensures heard { OnOk result (Heard W.hears watch.old
+        (machine.begin_forces scenario.now part.old.up) watch.new) }
+    ensures up { machine.is_part_down part.new ≡ machine.is_part_down part.old }
+    ensures log { OnErr result (part.new.log ≡ part.old.log) }
 {
-    Ok((alone(alloc, spare, What::Crashed(actor))?, None))
+    let act = coordinator_begins(part, spares, watch, scenario, txn)?;
+    part.placed(place);
+    Ok(act)
 }
 
 /// A server crashes in the receipt of a mail: what is left of it is on its log. It goes down once that is noted, and is up until
-/// then, with nothing said of its state. What the receipt was to force is answered too. After NoMemory its log is as before.
+/// then, with nothing said of its state. After NoMemory its log is as before.
 #[tactic(auto, using(crate::proofs::basics::Crashes::told_of))]
-pub fn server_crashes_in<L: LockTable + Drop>(
+pub fn server_crashes_in<L: LockTable + Drop, W: Watch>(
     part: &mut Part<Server<L>>,
-    alloc: Global,
     spares: &mut Spares,
+    watch: &mut W,
     scenario: &Scenario,
     at: ServerId,
     mail: &Mail,
     cut: Cut,
-) -> Result<(Act, Option<Record>), NoMemory>
+) -> Result<Act, NoMemory>
     requires few { HasFewRules scenario.now }
     requires fits { IfSome (machine.server_forces scenario.now part.old.up mail.now) FitsLog }
-    ensures ok { IfOk result (λ made.
+    ensures ok { IfOk result (λ act.
         Acts
         (machine.goes_down (machine.server_fact at) (what.Crashed (actor.Server at) ∷ []) part.old
-        (machine.cut_record cut (machine.server_forces scenario.now part.old.up mail.now)))
-        (acts.down_part part.new) made.0) }
-    ensures forced { IfOk result (λ made.
-        made.1 ≡ machine.server_forces scenario.now part.old.up mail.now) }
+        (cut_record cut (machine.server_forces scenario.now part.old.up mail.now)))
+        (acts.down_part part.new) act) }
+    ensures heard { OnOk result (Heard W.hears watch.old
+        (machine.server_forces scenario.now part.old.up mail.now) watch.new) }
     ensures up { machine.is_part_down part.new ≡ machine.is_part_down part.old }
     ensures log { OnErr result (part.new.log ≡ part.old.log) }
 {
+    let alloc = spares.alloc();
     let Some(server) = &mut part.up else {
-        return crash_alone(alloc, &mut spares.facts, Actor::Server(at));
+        return alone(&mut spares.facts, What::Crashed(Actor::Server(at)));
     };
-    let append = server
-        .receive(alloc, &mut spares.letters, scenario, mail)?
-        .append;
-    let happened = server_cut_facts(alloc, &mut spares.facts, at, cut, &append);
-    match torn(part, alloc, &append, happened, cut) {
-        Ok(happened) => Ok((act_of(alloc, happened), append)),
-        Err(NoMemory) => {
-            drop(append);
-            Err(NoMemory)
-        }
-    }
+    let append = server.receive(&mut spares.letters, scenario, mail)?.append;
+    let happened = server_cut_facts(&mut spares.facts, at, cut, &append);
+    let left = torn(part, watch, alloc, &append, happened, cut);
+    drop(append);
+    Ok(act_of(alloc, left?))
 }
 
 /// An act that sends nothing.
@@ -461,64 +452,53 @@ fn act_of(alloc: Global, happened: List<What>) -> Act
 
 /// A coordinator crashes in the receipt of a mail, in the same way.
 #[tactic(auto, using(crate::proofs::basics::Crashes::told_of))]
-pub fn coordinator_crashes_in(
+pub fn coordinator_crashes_in<W: Watch>(
     part: &mut Part<Coordinator>,
-    alloc: Global,
     spares: &mut Spares,
+    watch: &mut W,
     scenario: &Scenario,
     txn: TxnId,
     mail: &Mail,
     cut: Cut,
-) -> Result<(Act, Option<Record>), NoMemory>
+) -> Result<Act, NoMemory>
     requires fits { IfSome (machine.coordinator_forces scenario.now part.old.up mail.now) FitsLog }
-    ensures ok { IfOk result (λ made.
+    ensures ok { IfOk result (λ act.
         Acts
         (machine.goes_down machine.coordinator_fact (what.Crashed (actor.Coordinator txn) ∷ [])
         part.old
-        (machine.cut_record cut (machine.coordinator_forces scenario.now part.old.up mail.now)))
-        (acts.down_part part.new) made.0) }
-    ensures forced { IfOk result (λ made.
-        made.1 ≡ machine.coordinator_forces scenario.now part.old.up mail.now) }
+        (cut_record cut (machine.coordinator_forces scenario.now part.old.up mail.now)))
+        (acts.down_part part.new) act) }
+    ensures heard { OnOk result (Heard W.hears watch.old
+        (machine.coordinator_forces scenario.now part.old.up mail.now) watch.new) }
     ensures up { machine.is_part_down part.new ≡ machine.is_part_down part.old }
     ensures log { OnErr result (part.new.log ≡ part.old.log) }
 {
+    let alloc = spares.alloc();
     let Some(coordinator) = &mut part.up else {
-        return crash_alone(alloc, &mut spares.facts, Actor::Coordinator(txn));
+        return alone(&mut spares.facts, What::Crashed(Actor::Coordinator(txn)));
     };
     let append = coordinator
-        .receive(alloc, &mut spares.letters, scenario, mail)?
+        .receive(&mut spares.letters, scenario, mail)?
         .append;
-    let happened = coordinator_cut_facts(alloc, &mut spares.facts, txn, cut, &append);
-    match torn(part, alloc, &append, happened, cut) {
-        Ok(happened) => Ok((act_of(alloc, happened), append)),
-        Err(NoMemory) => {
-            drop(append);
-            Err(NoMemory)
-        }
-    }
-}
-
-/// Whether a cut leaves the record that was to be forced.
-fn is_kept(cut: Cut) -> bool
-    ensures { result ≡ machine.is_kept cut }
-{
-    cut.calls >= 4 || (cut.calls == 3 && cut.fill == 1)
+    let happened = coordinator_cut_facts(&mut spares.facts, txn, cut, &append);
+    let left = torn(part, watch, alloc, &append, happened, cut);
+    drop(append);
+    Ok(act_of(alloc, left?))
 }
 
 /// What happened where a server crashed in a receipt: its crash, and what its log then tells.
 fn server_cut_facts(
-    alloc: Global,
     spare: &mut Spare<What>,
     at: ServerId,
     cut: Cut,
     append: &Option<Record>,
 ) -> Result<List<What>, NoMemory>
     ensures { IfOk result (λ facts. facts ≡ what.Crashed (actor.Server at)
-        ∷ option_map_or (machine.server_fact at) (machine.cut_record cut append.now) []) }
+        ∷ option_map_or (machine.server_fact at) (cut_record cut append.now) []) }
 {
-    let mut happened = spare.list_of(alloc, What::Crashed(Actor::Server(at)))?;
+    let mut happened = spare.list_of(What::Crashed(Actor::Server(at)))?;
     match append {
-        Some(Record::Settled(settled)) if is_kept(cut) => {
+        Some(Record::Settled(settled)) if is_kept(cut.calls, cut.fill) => {
             happened.push(What::Settled(at, settled.txn, settled.outcome))?;
         }
         _ => {}
@@ -528,27 +508,27 @@ fn server_cut_facts(
 
 /// The same of a coordinator.
 fn coordinator_cut_facts(
-    alloc: Global,
     spare: &mut Spare<What>,
     txn: TxnId,
     cut: Cut,
     append: &Option<Record>,
 ) -> Result<List<What>, NoMemory>
     ensures { IfOk result (λ facts. facts ≡ what.Crashed (actor.Coordinator txn)
-        ∷ option_map_or machine.coordinator_fact (machine.cut_record cut append.now) []) }
+        ∷ option_map_or machine.coordinator_fact (cut_record cut append.now) []) }
 {
     let crash = What::Crashed(Actor::Coordinator(txn));
-    if is_kept(cut) {
-        with_decision(alloc, spare, crash, append)
+    if is_kept(cut.calls, cut.fill) {
+        with_decision(spare, crash, append)
     } else {
-        spare.list_of(alloc, crash)
+        spare.list_of(crash)
     }
 }
 
 /// A server boots by its log, on which one boot more is then. It comes up with the state that is answered once that is noted.
-pub fn server_boots<L: LockTable + Drop>(
+pub fn server_boots<L: LockTable + Drop, W: Watch>(
     part: &mut Part<Server<L>>,
     alloc: Global,
+    watch: &mut W,
     scenario: &Scenario,
     at: ServerId,
     opening: Opening,
@@ -559,6 +539,8 @@ pub fn server_boots<L: LockTable + Drop>(
     requires fits { HasShortLog (machine.server_boots scenario.now at part.old).part }
     ensures ok { IfOk result (λ made.
         Boots (machine.server_boots scenario.now at part.old) part.new made.0 made.1) }
+    ensures heard { OnOk result (Heard W.hears watch.old
+        (machine.server_boot_forces scenario.now at part.old) watch.new) }
     ensures up { machine.is_part_down part.new ≡ machine.is_part_down part.old }
     ensures log { OnErr result (part.new.log ≡ part.old.log) }
 {
@@ -566,6 +548,7 @@ pub fn server_boots<L: LockTable + Drop>(
     let kept = part.kept(alloc, scenario, at, values)?;
     let (state, reaction) = Server::booted(alloc, scenario, at, ranges, kept, locks)?;
     let Reaction { append, letters } = reaction;
+    hear(watch, alloc, &append);
     let forced = part.force(alloc, &append);
     drop(append);
     match forced {
@@ -586,9 +569,10 @@ pub fn server_boots<L: LockTable + Drop>(
 
 /// A coordinator boots by its log, in the same way.
 #[tactic(auto, using(crate::proofs::basics::Crashes::told_of))]
-pub fn coordinator_boots(
+pub fn coordinator_boots<W: Watch>(
     part: &mut Part<Coordinator>,
     alloc: Global,
+    watch: &mut W,
     scenario: &Scenario,
     txn: TxnId,
 ) -> Result<(Coordinator, Act), NoMemory>
@@ -596,13 +580,15 @@ pub fn coordinator_boots(
     requires fits { HasShortLog (machine.coordinator_boots scenario.now txn part.old).part }
     ensures ok { IfOk result (λ made.
         Boots (machine.coordinator_boots scenario.now txn part.old) part.new made.0 made.1) }
+    ensures heard { OnOk result (Heard W.hears watch.old
+        (machine.coordinator_boot_forces scenario.now txn part.old) watch.new) }
     ensures up { machine.is_part_down part.new ≡ machine.is_part_down part.old }
     ensures log { OnErr result (part.new.log ≡ part.old.log) }
 {
     let (state, reaction) = part.booted(alloc, scenario, txn)?;
     let Reaction { append, letters } = reaction;
     let happened = coordinator_facts(alloc, &append);
-    let told = noted(part, alloc, &append, happened);
+    let told = noted(part, watch, alloc, &append, happened);
     drop(append);
     match told {
         Ok(happened) => Ok((state, Act { happened, letters })),
@@ -615,7 +601,6 @@ pub fn coordinator_boots(
 }
 
 fn server_facts(
-    alloc: Global,
     spare: &mut Spare<What>,
     at: ServerId,
     append: &Option<Record>,
@@ -624,29 +609,30 @@ fn server_facts(
 {
     match append {
         Some(Record::Settled(settled)) => {
-            spare.list_of(alloc, What::Settled(at, settled.txn, settled.outcome))
+            spare.list_of(What::Settled(at, settled.txn, settled.outcome))
         }
-        _ => Ok(List::new(alloc)),
+        _ => Ok(List::new(spare.alloc())),
     }
 }
 
 /// Forces what a coordinator's act gives, once there is room for what it decides, which is the record's own: a commit
 /// with all its proofs is not copied. After NoMemory nothing was forced.
-fn forced_with_room<S: Drop>(
+fn forced_with_room<S: Drop, W: Watch>(
     part: &mut Part<S>,
-    alloc: Global,
+    watch: &mut W,
     spare: &mut Spare<What>,
     append: &Option<Record>,
 ) -> Result<Vec<What>, NoMemory>
     requires { IfSome append.now FitsLog }
-    ensures forced { OnOk result (part.new ≡ record part.old {
-      log = machine.log_with part.old.log append.now;
-    }) }
+    ensures forced { OnOk result (part.new ≡ record part.old { log = log_with part.old.log append.now }) }
+    ensures heard { OnOk result (Heard W.hears watch.old append.now watch.new) }
     ensures empty { IfOk result (λ room. vec_len room ≡ 0) }
     ensures room { IfOk result (λ room. acts.decisions append.now ≤ vec_capacity room) }
     ensures err { OnErr result (part.new ≡ part.old) }
 {
-    let room = spare.room(alloc, decisions(append))?;
+    let alloc = spare.alloc();
+    let room = spare.room(decisions(append))?;
+    hear(watch, alloc, append);
     match part.force(alloc, append) {
         Ok(()) => Ok(room),
         Err(NoMemory) => {
@@ -696,7 +682,6 @@ fn coordinator_facts(alloc: Global, append: &Option<Record>) -> Result<List<What
 /// What happened first, and the decision that the log gains if there is one.
 #[inline(always)]
 fn with_decision(
-    alloc: Global,
     spare: &mut Spare<What>,
     first: What,
     append: &Option<Record>,
@@ -704,7 +689,8 @@ fn with_decision(
     ensures { IfOk result (λ facts.
         facts ≡ first ∷ option_map_or machine.coordinator_fact append.now []) }
 {
-    let mut facts = spare.list_of(alloc, first)?;
+    let alloc = spare.alloc();
+    let mut facts = spare.list_of(first)?;
     note_decision(alloc, &mut facts, append)?;
     Ok(facts)
 }

@@ -17,4 +17,10 @@ impl Spares {
             letters: Spare::new(alloc),
         }
     }
+
+    /// Where this memory comes from.
+    #[inline(always)]
+    pub fn alloc(&self) -> Global {
+        self.letters.alloc()
+    }
 }

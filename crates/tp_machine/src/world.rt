@@ -6,20 +6,20 @@ ghost use Rattle.tp_model.specs.Valid as valid;
 ghost use Rattle.tp_machine.specs.declared.error.StepError.{StepError};
 ghost use Rattle.tp_machine.specs.WorldView.{start, IsReached, HasItsFacts, Does, Refuses, GivesUp, is_office};
 ghost use Rattle.tp_machine.specs.Fits.{AllFitLogs};
-ghost use Rattle.tp_machine.specs.Logs.{IsDiskOf, records_of};
+ghost use Rattle.tp_actor_log.specs.Disks.{IsDiskOf};
+ghost use Rattle.tp_machine.specs.Logs.{records_of};
 ghost use Rattle.tp_machine.specs.Machine as machine;
-ghost use Rattle.tp_machine.specs.Views.{StandsAt, coordinator_at, cut_off, server_at};
-ghost use Rattle.tp_log.specs.Images.{blocks};
-ghost use Rattle.tp_model.specs.Words.{Record};
+ghost use Rattle.tp_machine.specs.Views.{coordinator_at, server_at};
 ghost use Rattle.tp_types.specs.Each.{Each};
 ghost use Rattle.tp_machine.specs.Named.{IsActor, IsStepOf};
 
 use crate::actors::{Actors, Locks};
-use crate::acts::{act, act_untold, is_armed, is_submitted, refusal};
+use crate::acts::{act, is_armed, is_submitted, refusal};
 use crate::error::StepError;
 use crate::history::History;
 use crate::opening::Opening;
 use crate::spares::Spares;
+use crate::watch::Watch;
 use std::alloc::Global;
 use std::marker::Model;
 use tp_coord::Coordinator;
@@ -97,73 +97,51 @@ impl World {
         })
     }
 
-    /// Does a step. A refused step changes nothing. Where memory is refused the world is given up, and each later step answers
-    /// NoMemory; each actor's log is then that from before the step, or that after it.
-    pub fn step(&mut self, alloc: Global, taken: &Step) -> Result<(), StepError>
-        requires ids { IsStepOf self.old.scenario taken.now }
-        ensures ok { OnOk result (Does self.old self.new taken.now) }
-        ensures refused { IfErr result (λ why.
-            why ≢ StepError.NoMemory → Refuses self.old self.new taken.now why) }
-        ensures memory { IsErrOf result StepError.NoMemory → GivesUp self.old self.new taken.now }
-    {
-        if self.given_up {
-            return Err(StepError::NoMemory);
-        }
-        match refusal(&self.actors, &self.history, taken) {
-            Some(why) => Err(why),
-            None => match act_untold(
-                &mut self.actors,
-                &mut self.history,
-                alloc,
-                &mut self.spares,
-                &self.scenario,
-                &self.opening,
-                taken,
-            ) {
-                Ok(()) => Ok(()),
-                Err(NoMemory) => {
-                    self.given_up = true;
-                    Err(StepError::NoMemory)
-                }
-            },
-        }
-    }
-
-    /// Does a step in the same way. Where an actor crashes in a receipt, the record that this was to force is answered, whether
-    /// the log has it or not.
-    pub fn step_with_cut(
+    /// Does a step, and who looks on sees the world before it and after it, and hears of the record that it has its actor force. A
+    /// refused step changes nothing, and nobody sees it. Where memory is refused the world is given up, and each later step
+    /// answers NoMemory; each actor's log is then that from before the step, or that after it.
+    pub fn step<W: Watch>(
         &mut self,
         alloc: Global,
+        watch: &mut W,
         taken: &Step,
-    ) -> Result<Option<Record>, StepError>
+    ) -> Result<(), StepError>
         requires ids { IsStepOf self.old.scenario taken.now }
         ensures ok { OnOk result (Does self.old self.new taken.now) }
-        ensures forced { IfOk result (λ forced.
-            forced ≡ cut_off self.old.scenario self.old.machine.state taken.now) }
         ensures refused { IfErr result (λ why.
             why ≢ StepError.NoMemory → Refuses self.old self.new taken.now why) }
         ensures memory { IsErrOf result StepError.NoMemory → GivesUp self.old self.new taken.now }
+        ensures followed { OnOk result
+            (W.follows watch.old self.old → W.follows watch.new self.new) }
+        ensures unseen { IfErr result (λ why.
+            why ≢ StepError.NoMemory → watch.new ≡ watch.old) }
     {
         if self.given_up {
             return Err(StepError::NoMemory);
         }
         match refusal(&self.actors, &self.history, taken) {
-            Some(why) => Err(why),
-            None => match act(
-                &mut self.actors,
-                &mut self.history,
-                alloc,
-                &mut self.spares,
-                &self.scenario,
-                &self.opening,
-                taken,
-            ) {
-                Ok(forced) => Ok(forced),
-                Err(NoMemory) => {
-                    self.given_up = true;
-                    Err(StepError::NoMemory)
-                }
-            },
+            Some(why) => return Err(why),
+            None => {}
+        }
+        watch.before(alloc, self, taken);
+        let done = act(
+            &mut self.actors,
+            &mut self.history,
+            &mut self.spares,
+            watch,
+            &self.scenario,
+            &self.opening,
+            taken,
+        );
+        match done {
+            Ok(()) => {
+                watch.after(alloc, self, taken);
+                Ok(())
+            }
+            Err(NoMemory) => {
+                self.given_up = true;
+                Err(StepError::NoMemory)
+            }
         }
     }
 
@@ -232,12 +210,12 @@ impl World {
         self.history.is_pending(mail as usize)
     }
 
-    /// The least number of an undelivered mail, or None exactly where there is none. It takes at most one step: a step is a node
+    /// The least number of an undelivered mail, or None exactly where there is none. It takes one step: a step is a node
     /// of the chain through the undelivered mails that is visited, whatever was delivered or lost in between.
     pub fn oldest<T: Tally>(&self, tally: &mut T) -> Option<u64>
         ensures value { result ≡ slice_get self.now.machine.undelivered 0 }
         ensures sent { IfSome result (λ mail. mail < length self.now.machine.state.mails) }
-        ensures counted { T.counted tally.new ≤ T.counted tally.old + 1 }
+        ensures counted { T.counted tally.new ≡ T.counted tally.old + T.weight }
     {
         self.history.first_pending(tally)
     }
@@ -272,6 +250,13 @@ impl World {
         })
     }
 
+    /// A mail, by its number.
+    pub fn mail(&self, number: u64) -> Option<&Mail>
+        ensures { option_copied result ≡ slice_get self.now.machine.state.mails number }
+    {
+        self.history.mails.get(number as usize)
+    }
+
     /// Every mail that was sent, in order of number.
     pub fn sent(&self) -> &List<Mail>
         ensures { result.now ≡ self.now.machine.state.mails }
@@ -299,30 +284,5 @@ impl World {
             records ≡ records_of self.now.machine.state.actors actor.now) }
     {
         self.actors.records(alloc, *actor)
-    }
-
-    /// The place in bytes where an actor's log ends.
-    pub fn log_end(&self, alloc: Global, actor: &Actor) -> Result<u64, NoMemory>
-        ensures { IfOk result (λ place.
-            place ≡ length (blocks (records_of self.now.machine.state.actors actor.now))) }
-    {
-        self.actors.log_end(alloc, *actor)
-    }
-
-    /// The records of an actor's log from a place on at which it has ended: those that it gained since. What stands before them
-    /// is not looked at.
-    pub fn records_behind(
-        &self,
-        alloc: Global,
-        actor: &Actor,
-        place: u64,
-    ) -> Result<List<Record>, NoMemory>
-        requires { (before : List Record) × (more : List Record)
-            × StandsAt (records_of self.now.machine.state.actors actor.now) place before more }
-        ensures { IfOk result (λ records. (before more : List Record)
-            → StandsAt (records_of self.now.machine.state.actors actor.now) place before more
-            → records ≡ more) }
-    {
-        self.actors.records_behind(alloc, *actor, place)
     }
 }

@@ -3,6 +3,7 @@ use Rattle.std.proofs.Common.{◌≡◌, ℕ, ◌+◌, List, [], ◌∷◌, ◌+
 use Rattle.std.specs.List.{list_all}
 use Rattle.std.specs.Option.{option_map_or}
 use Rattle.std.proofs.lemmas.Bool.{and_parts, ltb-true}
+use Rattle.std.proofs.lemmas.List.{append-nil, append_assoc}
 use Rattle.std.proofs.lemmas.Option.{none-some}
 use Rattle.tp_model.specs.Words.{Actor, Scenario, Step}
 use Rattle.tp_model.specs.Words.actor
@@ -12,15 +13,15 @@ use Rattle.tp_model.specs.Valid.{is_admin, is_server, is_valid, is_valid_cut, is
 use Rattle.tp_model.proofs.RuleLemmas.{rules_of}
 use Rattle.tp_machine.specs.declared.error.StepError.{StepError}
 use Rattle.tp_machine.specs.Machine.{Machine, after_steps, machine_after, refusal}
-use Rattle.tp_machine.specs.WorldView.{Does, Refuses, WorldView}
+use Rattle.tp_machine.specs.WorldView.{Does, Refuses, WorldView, start}
 use Rattle.tp_types.specs.Each.{Each}
 use Rattle.tp_machine.specs.Named.{IsCrasher, IsStepOf}
-use Rattle.tp_machine.proofs.basics.Machine.{after_steps-snoc}
+use Rattle.tp_machine.proofs.basics.Machine.{after_steps-snoc, steps_next}
 use Rattle.tp_auto.proofs.AutoLemmas.{after_allowed, drop_more, take_more}
 use Rattle.tp_top.specs.declared.listed.StepRefusal.{StepRefusal}
 use Rattle.tp_auto.specs.Auto.{world_after}
 use Rattle.tp_top.specs.Listed.{refused_from, refused_or}
-use Rattle.tp_top.specs.mirrors.Answers.{Follows}
+use Rattle.tp_top.specs.mirrors.Answers.{Follows, IsStoppedAt, StopsBefore}
 
 -- ---- each listed step
 
@@ -73,14 +74,20 @@ none_refused sc m at taken steps e =
 
 -- ---- how far the steps were followed
 
+-- who looked on and saw nothing more has followed as far
+pub still_followed : {W : Type 0} (follows : W → WorldView → Type 0) (watch watch' : W) (world world' : WorldView) → watch' ≡ watch → world' ≡ world → follows watch world → follows watch' world'
+still_followed {W} follows watch watch' world world' same unchanged h =
+    subst (λ (w : W). follows w world') (sym same) (subst (follows watch) (sym unchanged) h)
+
 -- so many of the steps are done, and what is refused is sought among the rest
 pub record Followed (old new : WorldView) (steps : List Step) (count : ℕ) : Type 0 where
   pub up : new.given_up ≡ false
   pub now : new ≡ world_after old (take count steps)
+  pub done : new.machine.state.steps ≡ old.machine.state.steps ++ take count steps
   pub rest : refused_from old.scenario old.machine 0 steps ≡ refused_from old.scenario new.machine count (drop count steps)
 
 pub followed_none : (old : WorldView) (steps : List Step) → old.given_up ≡ false → Followed old old steps 0
-followed_none old steps up = record { up = up; now = refl; rest = refl }
+followed_none old steps up = record { up = up; now = refl; done = sym (append-nil old.machine.state.steps); rest = refl }
 
 refused_allowed : (sc : Scenario) (m : Machine) (at : ℕ) (taken : Step) (steps : List Step) → refusal m.state taken ≡ None
     → refused_from sc m at (taken ∷ steps) ≡ refused_from sc (machine_after sc m taken) (at + 1) steps
@@ -101,6 +108,9 @@ stepped_one old mid new done taken e did =
     ∙ ap (λ (m : Machine). record old { machine = m })
     (sym (after_steps-snoc old.scenario old.machine done taken ∙ after_allowed old.scenario (after_steps old.scenario old.machine done) taken allowed)))
 
+done_step : (mid new : WorldView) (taken : Step) → Does mid new taken → new.machine.state.steps ≡ mid.machine.state.steps ++ taken ∷ []
+done_step mid new taken did = ap (λ (w : WorldView). w.machine.state.steps) did.now ∙ steps_next mid.scenario mid.machine taken
+
 -- one step more is done
 pub followed_more : (old mid new : WorldView) (steps : List Step) (count : ℕ) (taken : Step) (others : List Step) → Followed old mid steps count → drop count steps ≡ taken ∷ others → Does mid new taken
     → Followed old new steps (count + 1)
@@ -110,6 +120,9 @@ followed_more old mid new steps count taken others f e did =
     record {
       up = ap (λ (w : WorldView). w.given_up) did.now ∙ did.was_up;
       now = stepped_one old mid new (take count steps) taken f.now did ∙ ap (world_after old) (sym (take_more count steps taken others e));
+      done = done_step mid new taken did
+          ∙ (ap (λ (l : List Step). l ++ taken ∷ []) f.done
+          ∙ (append_assoc old.machine.state.steps (take count steps) (taken ∷ []) ∙ ap (λ (l : List Step). old.machine.state.steps ++ l) (sym (take_more count steps taken others e))));
       rest = f.rest
           ∙ (ap (refused_from old.scenario mid.machine count) e
           ∙ (refused_allowed old.scenario mid.machine count taken others did.not_refused
@@ -133,3 +146,15 @@ follows_all old new steps count f none all =
       first = sym (f.rest ∙ ap (refused_from old.scenario new.machine count) none);
       done = λ _. f.now ∙ ap (world_after old) all;
     }
+
+-- a run of the scenario's own steps that is stopped stands before the first of them that is refused
+pub stopped_at : (old new : WorldView) (steps : List Step) (refused : StepRefusal) → old ≡ start old.scenario → steps ≡ old.scenario.steps → Follows old new steps (Some refused) → StopsBefore old new steps (Some refused)
+    → IsStoppedAt old.scenario new refused
+stopped_at old new steps refused fresh listed follows before = record {
+  first = sym (follows.first
+      ∙ (ap (λ (l : List Step). refused_from old.scenario old.machine 0 l) listed
+      ∙ ap (λ (w : WorldView). refused_from old.scenario w.machine 0 old.scenario.steps) fresh));
+  before = before
+      ∙ (ap (λ (l : List Step). old.machine.state.steps ++ take refused.at l) listed
+      ∙ ap (λ (w : WorldView). w.machine.state.steps ++ take refused.at old.scenario.steps) fresh);
+}

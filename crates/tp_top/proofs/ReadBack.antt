@@ -13,7 +13,7 @@ use Rattle.tp_model.proofs.RuleLemmas.{rules_of}
 use Rattle.tp_model.specs.Ids.{same_name}
 use Rattle.tp_model.specs.Limits.{calls_limit, has_count, is_from_to, steps_limit, tick_limit}
 use Rattle.tp_model.specs.SpelledNames.{is_spelled}
-use Rattle.tp_model.specs.Valid.{are_distinct, are_valid_from, has_valid_creds, is_admin, is_cred, is_name_of_server, is_number, is_server, is_txn, is_valid, is_valid_admin, is_valid_cred, is_valid_cut, is_valid_query, is_valid_txn, may_crash, same_admin_name, same_cred_name, same_server_name, same_txn_name}
+use Rattle.tp_model.specs.Valid.{are_distinct, are_valid_from, has_valid_creds, is_admin, is_cred, is_name_of_server, is_number, is_server, is_txn, is_valid, is_valid_admin, is_valid_cred, is_valid_cut, is_valid_query, is_valid_step, is_valid_txn, may_crash, same_admin_name, same_cred_name, same_server_name, same_txn_name}
 use Rattle.tp_model.specs.Words.{Actor, Admin, AdminId, CredId, Credential, Item, Scenario, ServerDecl, ServerId, Step, Transaction, TxnId}
 use Rattle.tp_model.specs.Words.actor
 use Rattle.tp_model.specs.Words.step
@@ -29,7 +29,7 @@ use Rattle.tp_scenario.specs.Walk.{names_of}
 use Rattle.tp_scenario.proofs.GrowingLists.{any_agrees, any_made}
 use Rattle.tp_scenario.proofs.NameLemmas.{same_turned}
 use Rattle.tp_scenario.proofs.SaidSteps.{IsDeclared, IsNamed, boot_said, crash_said, cut_said, deliver_said, list_said, lose_said, one_said, publish_said, push_said, revoke_said, submit_said, tick_said, timer_said}
-use Rattle.tp_top.specs.Laws.{SaysOnly, can_be_listed}
+use Rattle.tp_top.specs.Laws.{SaysOnly}
 
 -- ---- names
 
@@ -112,41 +112,41 @@ actor_named sc names actor.Authority low = absurd (cc)
 five_parts : (one two three four five : List ℕ) → one ++ two ++ three ++ four ++ five ≡ one ++ (two ++ (three ++ (four ++ five)))
 five_parts one two three four five = append_assoc (one ++ two ++ three) four five ∙ (append_assoc (one ++ two) three (four ++ five) ∙ append_assoc one two (three ++ (four ++ five)))
 
-says : (sc : Scenario) (taken : Step) → AreDeclared sc → can_be_listed sc taken ≡ true → IsStep (names_of sc) taken (step_text sc taken)
+says : (sc : Scenario) (taken : Step) → AreDeclared sc → is_valid_step sc taken ≡ true → IsStep (names_of sc) taken (step_text sc taken)
 unfolding step_text
-says sc (step.Submit txn) names h = submit_said (names_of sc) txn (txn_name sc txn) (names.txns txn (and_parts (is_txn sc txn) true h).0)
-says sc (step.Publish admin) names h = publish_said (names_of sc) admin (admin_name sc admin) (names.admins admin (and_parts (is_admin sc admin) true h).0)
+says sc (step.Submit txn) names h = submit_said (names_of sc) txn (txn_name sc txn) (names.txns txn h)
+says sc (step.Publish admin) names h = publish_said (names_of sc) admin (admin_name sc admin) (names.admins admin h)
 says sc (step.Push admin server) names h =
-    let both = and_parts (is_admin sc admin) (is_server sc server) (and_parts (is_admin sc admin && is_server sc server) true h).0 in
+    let both = and_parts (is_admin sc admin) (is_server sc server) h in
     subst (λ (rest : List ℕ). IsStep (names_of sc) (step.Push admin server) (codes "push" ++ 32 ∷ rest)) (sym (append_assoc (admin_name sc admin) (32 ∷ []) (server_name sc server)))
     (push_said (names_of sc) admin server (admin_name sc admin) (server_name sc server) (names.admins admin both.0) (names.servers server both.1))
-says sc (step.Revoke cred) names h = revoke_said (names_of sc) cred (cred_name sc cred) (names.creds cred (and_parts (is_cred sc cred) true h).0)
-says sc (step.Tick by) names h = tick_said (names_of sc) by (and_parts (is_from_to 1 tick_limit by) true h).0
-says sc (step.Deliver mail) names h = deliver_said (names_of sc) mail (ltb-true mail (10 ^ 15) (and_parts (is_number mail) true h).0)
-says sc (step.Lose mail) names h = lose_said (names_of sc) mail (ltb-true mail (10 ^ 15) (and_parts (is_number mail) true h).0)
+says sc (step.Revoke cred) names h = revoke_said (names_of sc) cred (cred_name sc cred) (names.creds cred h)
+says sc (step.Tick by) names h = tick_said (names_of sc) by h
+says sc (step.Deliver mail) names h = deliver_said (names_of sc) mail (ltb-true mail (10 ^ 15) h)
+says sc (step.Lose mail) names h = lose_said (names_of sc) mail (ltb-true mail (10 ^ 15) h)
 says sc (step.Crash who None) names h =
-    let named = actor_named sc names who (and_parts (may_crash sc who) true (and_parts (may_crash sc who && true) true h).0).0 in
+    let named = actor_named sc names who (and_parts (may_crash sc who) true h).0 in
     subst (λ (name : List ℕ). IsStep (names_of sc) (step.Crash who None) (codes "crash" ++ 32 ∷ name)) (sym (append-nil (actor_word sc who)))
     (crash_said (names_of sc) who (actor_word sc who) named)
 says sc (step.Crash who (Some how)) names h =
-    let outer = and_parts (may_crash sc who && is_valid_cut how) (nat_le how.fill 255) h in
-    let inner = and_parts (may_crash sc who) (is_valid_cut how) outer.0 in
-    let numbers = and_parts (is_number how.mail) (nat_le how.calls calls_limit) inner.1 in
+    let parts = and_parts (may_crash sc who) (is_valid_cut how) h in
+    let outer = and_parts (is_number how.mail && nat_le how.calls calls_limit) (nat_le how.fill 255) parts.1 in
+    let numbers = and_parts (is_number how.mail) (nat_le how.calls calls_limit) outer.0 in
     subst (λ (rest : List ℕ). IsStep (names_of sc) (step.Crash who (Some how)) (codes "crash" ++ 32 ∷ (actor_word sc who ++ 32 ∷ (codes "in" ++ 32 ∷ rest))))
     (sym (five_parts (decimal how.mail) (codes " at ") (decimal how.calls) (codes " fill ") (decimal how.fill)))
-    (cut_said (names_of sc) who (actor_word sc who) how (actor_named sc names who inner.0) (ltb-true how.mail (10 ^ 15) numbers.0) numbers.1 outer.1)
-says sc (step.Boot who) names h = boot_said (names_of sc) who (actor_word sc who) (actor_named sc names who (and_parts (may_crash sc who) true h).0)
-says sc (step.Timer txn) names h = timer_said (names_of sc) txn (txn_name sc txn) (names.txns txn (and_parts (is_txn sc txn) true h).0)
+    (cut_said (names_of sc) who (actor_word sc who) how (actor_named sc names who parts.0) (ltb-true how.mail (10 ^ 15) numbers.0) numbers.1 outer.1)
+says sc (step.Boot who) names h = boot_said (names_of sc) who (actor_word sc who) (actor_named sc names who h)
+says sc (step.Timer txn) names h = timer_said (names_of sc) txn (txn_name sc txn) (names.txns txn h)
 
-pub step_read_back : (sc : Scenario) (taken : Step) → is_valid sc ≡ true → is_spelled sc ≡ true → can_be_listed sc taken ≡ true → SaysOnly sc taken (step_text sc taken)
+pub step_read_back : (sc : Scenario) (taken : Step) → is_valid sc ≡ true → is_spelled sc ≡ true → is_valid_step sc taken ≡ true → SaysOnly sc taken (step_text sc taken)
 step_read_back sc taken valid spelled h =
     let here = says sc taken (all_declared sc valid spelled) h in
     record { says = here; no_other = λ other k. one_said (names_of sc) (step_text sc taken) taken other here k }
 
-pub list_read_back : (sc : Scenario) (steps : List Step) → is_valid sc ≡ true → is_spelled sc ≡ true → length steps ≤ steps_limit → list_all (can_be_listed sc) steps ≡ true
+pub list_read_back : (sc : Scenario) (steps : List Step) → is_valid sc ≡ true → is_spelled sc ≡ true → length steps ≤ steps_limit → list_all (is_valid_step sc) steps ≡ true
     → steps_at (names_of sc) (Some (array_of (map (step_text sc) steps))) ≡ Ok steps
 list_read_back sc steps valid spelled few all =
     let names = all_declared sc valid spelled in
     list_said (names_of sc) (step_text sc) steps few
-    (each_as (λ (taken : Step). can_be_listed sc taken ≡ true) (λ (taken : Step). IsStep (names_of sc) taken (step_text sc taken)) (λ taken h. says sc taken names h) steps
-    (each_from_all (can_be_listed sc) steps all))
+    (each_as (λ (taken : Step). is_valid_step sc taken ≡ true) (λ (taken : Step). IsStep (names_of sc) taken (step_text sc taken)) (λ taken h. says sc taken names h) steps
+    (each_from_all (is_valid_step sc) steps all))

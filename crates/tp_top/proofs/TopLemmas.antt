@@ -10,7 +10,7 @@ use Rattle.std.specs.List.{flat_map}
 use Rattle.tp_bulk.specs.Bulk.{scenario_of}
 use Rattle.tp_model.specs.Words.{Scenario, Text}
 use Rattle.tp_scenario.proofs.ReadLemmas.{says_one}
-use Rattle.tp_io.specs.Whole.{TakesAtMost, TakesExactly, input_max}
+use Rattle.tp_io.specs.Whole.{TakesAtMost, TakesExactly}
 use Rattle.tp_scenario.specs.declared.from_bytes.ScenarioError.{ScenarioError}
 use Rattle.tp_scenario.specs.declared.from_bytes.ScenarioError.TheVariants as error
 use Rattle.tp_top.specs.declared.status.Status.{Status}
@@ -24,7 +24,7 @@ use Rattle.tp_trace.specs.Blocks.{ending_text, trace_lines, trace_text}
 use Rattle.tp_trace.specs.Laws.{told_of}
 use Rattle.tp_top.specs.Headline.{CountsTrusted, PrintsTrusted, TracesTrusted}
 use Rattle.tp_top.specs.Refusals.{refusal_line, step_line}
-use Rattle.tp_top.specs.Input.{AreRefused, Reads, TakesAll}
+use Rattle.tp_top.specs.Input.{AreRefused, Reads, TakesAll, input_max}
 use Rattle.tp_top.specs.Run.{ComesToRest, FailsFor, HasRefusal, HasText, IsBulk, IsInputRefused, IsLine, IsOfCommand, IsRun, IsTrace, RefusesFor, RefusesStep, RunsTo, TakesRefused, after_listed, all_steps, automatic, automatic_bound, final, first_refused, nothing_before, report_of, trace_before, whole_trace}
 use Rattle.tp_top.specs.declared.listed.StepRefusal.{StepRefusal}
 use Rattle.tp_top.specs.Top.{Ends, EndsRightly}

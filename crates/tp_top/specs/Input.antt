@@ -3,7 +3,11 @@ use Rattle.std.specs.Prelude.{Err, List, Ok, Option, ℕ}
 use Rattle.std.specs.Io.KnownBytes.{Consumes, IsAtEnd}
 use Rattle.tp_model.specs.Words.{Scenario}
 use Rattle.tp_scenario.specs.declared.from_bytes.ScenarioError.{ScenarioError}
-use Rattle.tp_scenario.specs.Reads.{Says}
+use Rattle.tp_scenario.specs.Reads.{Says, length_max}
+
+-- the most bytes of an input, which are those of a scenario
+abbrev pub input_max : ℕ
+input_max = length_max
 
 -- the bytes are read as this scenario
 abbrev pub Reads : List ℕ → Scenario → Type 0

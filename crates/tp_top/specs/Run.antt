@@ -2,7 +2,7 @@
 use Rattle.std.specs.Prelude.{◌≡◌, ◌⊎◌, ℕ, ◌+◌, ◌*◌, ◌≤◌, List, [], ◌++◌, length, take, true, Option, Some, None}
 use Rattle.tp_model.specs.Words.{Scenario, Step, Text}
 use Rattle.tp_types.specs.Faults.{Rose}
-use Rattle.tp_io.specs.Whole.{TakesAtMost, TakesExactly, input_max}
+use Rattle.tp_io.specs.Whole.{TakesAtMost, TakesExactly}
 use Rattle.tp_model.specs.TrustedHistory.{TrustedHistory}
 use Rattle.tp_machine.specs.Machine.{Machine, after, after_steps, ending_of, opening}
 use Rattle.tp_runs.specs.Laws.{IsPrintableState, mails_most}
@@ -14,7 +14,7 @@ use Rattle.tp_auto.specs.Auto.{automatic_steps, bound, is_quiet}
 use Rattle.tp_bulk.specs.Bulk.{scenario_of}
 use Rattle.tp_bulk.specs.Line.{line_of}
 use Rattle.tp_top.specs.declared.listed.StepRefusal.{StepRefusal}
-use Rattle.tp_top.specs.Input.{AreRefused, Reads, TakesAll}
+use Rattle.tp_top.specs.Input.{AreRefused, Reads, TakesAll, input_max}
 use Rattle.tp_top.specs.Listed.{refused_from}
 use Rattle.tp_top.specs.Refusals.{refusal_line, step_line}
 use Rattle.tp_report.specs.ReportText.{report_text}

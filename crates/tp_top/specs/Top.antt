@@ -3,7 +3,7 @@ use Rattle.std.specs.Prelude.{◌≡◌, ◌⊎◌, ◌<◌, ℕ, List, [], leng
 use Rattle.std.specs.Io.KnownBytes.{Appends}
 use Rattle.tp_model.specs.Words.{Scenario, Text}
 use Rattle.tp_types.specs.Faults.{Rose}
-use Rattle.tp_io.specs.Whole.{AppendsFront, input_max}
+use Rattle.tp_io.specs.Whole.{AppendsFront}
 use Rattle.tp_scenario.specs.declared.from_bytes.ScenarioError.{ScenarioError}
 use Rattle.tp_scenario.specs.declared.from_bytes.ScenarioError.TheVariants as error
 use Rattle.tp_top.specs.declared.status.Status.{Status}
@@ -12,7 +12,7 @@ use Rattle.tp_top.specs.declared.listed.StepRefusal.{StepRefusal}
 use Rattle.tp_words.specs.Commands.{IsCommand, IsNoCommand}
 use Rattle.tp_words.specs.declared.commands.Command.{Command}
 use Rattle.tp_top.specs.Refusals.{refusal_line, step_line, usage_line}
-use Rattle.tp_top.specs.Input.{AreRefused, Reads}
+use Rattle.tp_top.specs.Input.{AreRefused, Reads, input_max}
 use Rattle.tp_top.specs.Run.{FailsFor, HasText, RefusesFor, first_refused}
 
 -- what a call saw of a stream: what it tells before the call and after it, and its counts of faults

@@ -6,11 +6,12 @@ ghost use Rattle.tp_model.specs.Causes.{is_caused};
 ghost use Rattle.tp_model.specs.Commits.{are_lone};
 ghost use Rattle.tp_model.specs.SerialRun.{is_serial};
 ghost use Rattle.tp_model.specs.Trust.{is_trusted};
-ghost use Rattle.tp_io.specs.Whole.{TakesAtMost, input_max};
+ghost use Rattle.tp_io.specs.Whole.{TakesAtMost};
 ghost use Rattle.tp_machine.specs.Machine.{ending_of};
 ghost use Rattle.tp_machine.specs.WorldView.{start};
 ghost use Rattle.tp_report.specs.ReportText.{report_text};
 ghost use Rattle.tp_runs.specs.Laws.{IsTrustedState};
+ghost use Rattle.tp_top.specs.Input.{input_max};
 ghost use Rattle.tp_top.specs.Run.{Answers, IsOfCommand};
 ghost use Rattle.tp_top.specs.mirrors.Answers.{IsInput, IsRefusal, IsReported, IsUnread, IsWhole};
 ghost use Rattle.tp_words.specs.declared.commands.Command.TheVariants as Command;
@@ -21,13 +22,13 @@ use crate::refusals::{refusal_line, step_line};
 use crate::traced::traced;
 use std::alloc::Global;
 use tp_io::{ReadError, Source, read_to_end};
-use tp_machine::World;
+use tp_machine::{Nobody, World};
 use tp_report::print;
 use tp_runs::agree::agreed;
 use tp_runs::data::serial;
 use tp_runs::history;
 use tp_runs::views::trusted;
-use tp_scenario::{ScenarioError, read};
+use tp_scenario::{LENGTH_MAX, ScenarioError, read};
 use tp_types::{Fact, List, NoMemory, Scenario, Step, Text};
 use tp_words::Command;
 
@@ -91,7 +92,7 @@ fn scenario_in<I: Source>(alloc: Global, input: &mut I) -> Result<Scenario, Answ
     ensures read { IfOk result (IsInput (I.left input.old) (I.left input.new)) }
     ensures taken { TakesAtMost (input_max + 1) (I.left input.old) (I.left input.new) }
 {
-    match read_to_end(alloc, input) {
+    match read_to_end(alloc, input, LENGTH_MAX) {
         Err(ReadError::TooLong) => Err(refused(alloc, &ScenarioError::TooLong)),
         Err(ReadError::Fault) => Err(Answer::ReadFault),
         Err(ReadError::NoMemory) => Err(Answer::NoMemory),
@@ -152,7 +153,7 @@ fn report_in(alloc: Global, world: &mut World, steps: &[Step]) -> Result<Answer,
     requires listed { steps.now ≡ world.old.scenario.steps }
     ensures { IfOk result (IsReported world.old.scenario) }
 {
-    match run(world, alloc, steps)? {
+    match run(world, alloc, &mut Nobody, steps)? {
         RunEnd::Stopped(refused) => {
             let line = step_line(alloc, world.scenario(), refused)?;
             Ok(Answer::Refused {

@@ -12,7 +12,7 @@ use crate::answer::{Answer, proved_facts};
 use crate::ended::{RunEnd, ending, leave, listed_in, run};
 use std::alloc::Global;
 use tp_bulk::{run_line, scenario_of};
-use tp_machine::World;
+use tp_machine::{Nobody, World};
 use tp_runs::history;
 use tp_types::{NoMemory, Scenario, Step, Text};
 
@@ -63,7 +63,7 @@ fn count_in(
     requires listed { steps.now ≡ world.old.scenario.steps }
     ensures { IfOk result (IsCounted count) }
 {
-    match run(world, alloc, steps)? {
+    match run(world, alloc, &mut Nobody, steps)? {
         RunEnd::Stopped(_) => unreachable!(),
         RunEnd::AtRest => Ok(Answer::Text(line_in(alloc, count, world)?)),
     }

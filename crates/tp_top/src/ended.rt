@@ -10,7 +10,7 @@ use crate::listed::{StepRefusal, follow};
 use std::alloc::Global;
 use std::mem::forget;
 use tp_auto::drain;
-use tp_machine::World;
+use tp_machine::{Watch, World};
 use tp_runs::history;
 use tp_types::{Ending, List, NoMemory, Scenario, Step};
 
@@ -30,27 +30,36 @@ pub(crate) fn listed_in(alloc: Global, scenario: &Scenario) -> Result<List<Step>
     Ok(List::from_vec(Vec::from_slice(alloc, scenario.steps.as_slice())?))
 }
 
-/// Does all steps of a scenario, of which these are listed, in its world before the first one.
-pub(crate) fn run(world: &mut World, alloc: Global, steps: &[Step]) -> Result<RunEnd, NoMemory>
+/// Does all steps of a scenario, of which these are listed, in its world before the first one. Who looks on sees each.
+pub(crate) fn run<W: Watch>(
+    world: &mut World,
+    alloc: Global,
+    watch: &mut W,
+    steps: &[Step],
+) -> Result<RunEnd, NoMemory>
     requires valid { valid.is_valid world.old.scenario ≡ true }
     requires fresh { world.old ≡ start world.old.scenario }
     requires listed { steps.now ≡ world.old.scenario.steps }
     ensures run { IfOk result (HasRun world.old.scenario world.new) }
     ensures kept { OnOk result (world.new.scenario ≡ world.old.scenario) }
+    ensures followed { OnOk result
+        (W.follows watch.old world.old → W.follows watch.new world.new) }
 {
-    match follow(world, alloc, steps)? {
+    match follow(world, alloc, watch, steps)? {
         Some(refused) => Ok(RunEnd::Stopped(refused)),
-        None => settle(world, alloc),
+        None => settle(world, alloc, watch),
     }
 }
 
 /// Does the automatic steps of a world after all of its listed ones.
-fn settle(world: &mut World, alloc: Global) -> Result<RunEnd, NoMemory>
+fn settle<W: Watch>(world: &mut World, alloc: Global, watch: &mut W) -> Result<RunEnd, NoMemory>
     requires here { IsListed world.old }
     ensures run { IfOk result (HasRun world.old.scenario world.new) }
     ensures kept { OnOk result (world.new.scenario ≡ world.old.scenario) }
+    ensures followed { OnOk result
+        (W.follows watch.old world.old → W.follows watch.new world.new) }
 {
-    drain(alloc, world)?;
+    drain(alloc, world, watch)?;
     Ok(RunEnd::AtRest)
 }
 

@@ -1,9 +1,10 @@
 //! The top call of the program.
 ghost use Rattle.std.specs.Prelude.{◌≡◌, ◌⊎◌, ◌+◌, ℕ, IfSome};
 ghost use Rattle.tp_types.specs.Faults.{Rose};
-ghost use Rattle.tp_io.specs.Whole.{TakesAtMost, input_max};
+ghost use Rattle.tp_io.specs.Whole.{TakesAtMost};
 ghost use Rattle.tp_top.specs.declared.status.Status.TheVariants as Status;
 ghost use Rattle.tp_top.specs.Headline.{CountsTrusted, PrintsTrusted, TracesTrusted};
+ghost use Rattle.tp_top.specs.Input.{input_max};
 ghost use Rattle.tp_top.specs.Run.{IsBulk, IsRun, IsTrace};
 ghost use Rattle.tp_top.specs.Top.{Ends, EndsRightly, EndsWith};
 ghost use Rattle.tp_words.specs.Commands.{IsNoCommand};

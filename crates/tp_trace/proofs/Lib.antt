@@ -1,5 +1,4 @@
 pub mod BlockLemmas
-pub mod CrashLemmas
-pub mod GrowLemmas
 pub mod LineLemmas
+pub mod TellingLemmas
 pub mod ToldLemmas

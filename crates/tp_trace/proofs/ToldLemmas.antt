@@ -8,10 +8,10 @@ use Rattle.std.specs.Option.{option_map_or}
 use Rattle.std.specs.Ordering.{int_eq}
 use Rattle.tp_lock.specs.declared.entry.LockEntry.{LockEntry}
 use Rattle.tp_machine.specs.Machine.{Machine, State, after, after_step, after_steps, ending_of, is_down, machine_after, opening, refusal}
-use Rattle.tp_machine.specs.Views.{cut_off, server_at}
-use Rattle.tp_machine.specs.Logs.{records_of}
+use Rattle.tp_machine.specs.Moves.{logged, moved_by}
+use Rattle.tp_machine.specs.Views.{server_at}
 use Rattle.tp_model.specs.Ids.{same_version}
-use Rattle.tp_model.specs.Words.{Actor, CommitRecord, Deed, Fact, Instance, ItemId, Mail, Record, Scenario, ServerId, Step, Verdict, Version, What}
+use Rattle.tp_model.specs.Words.{Actor, CommitRecord, Deed, Fact, Instance, ItemId, Mail, Record, Scenario, ServerId, Step, TxnId, Verdict, Version, What}
 use Rattle.tp_model.specs.Words.actor
 use Rattle.tp_model.specs.Words.decision
 use Rattle.tp_model.specs.Words.step
@@ -20,10 +20,10 @@ use Rattle.tp_report.proofs.TokenLemmas.{text_append}
 use Rattle.tp_report.specs.ReportText.{below, commit_line, deed_line, deed_tokens, fact_tokens, instance_line, instance_tokens, instances_tokens, proof_line, proof_tokens, quiet_tokens, server_tokens, what_line, what_tokens}
 use Rattle.tp_report.specs.Tokens.{text_of}
 use Rattle.tp_server.specs.State.{Server}
-use Rattle.tp_trace.specs.Blocks.{acting, block, blocks, durable_lines, fate, fate_lines, gained, lines_between, mail_at, now_lines, server_now, state_lines, taken_or_gone, torn_lines}
+use Rattle.tp_trace.specs.Blocks.{block, blocks, durable_lines, ended_if, fate, fate_lines, forced_or_torn, is_torn, leaves_commit, lines_between, mail_at, now_lines, server_now, state_lines, taken_or_gone}
 use Rattle.tp_trace.specs.Laws.{TracesTellReports, told_by, told_of}
 use Rattle.tp_trace.specs.Lines.{Line, line_of, mail_line, record_line}
-use Rattle.tp_trace.specs.Seen.{changed_lines, free_if, free_line, frees_from, is_entry, is_of_entry, item_line, items_of, knows_from, knows_if, knows_line, list_in, lock_if, lock_line, locks_from, seen_lines, seen_of, seen_up, value_if, values_from, values_left}
+use Rattle.tp_trace.specs.Seen.{changed_lines, free_if, free_line, frees_from, is_entry, is_of_entry, item_line, items_of, knows_from, knows_if, knows_line, left_lines, list_in, lock_if, lock_line, locks_from, seen_lines, seen_of, seen_up, value_if, values_from, values_to}
 use Rattle.tp_trace.specs.Told.{all_told, because_lines, commit_because, deed_because, instance_because, instances_because, proof_because, told_lines}
 use Rattle.tp_trace.specs.Why.{why_lines}
 use Rattle.tp_trace.specs.declared.lines.Kind.TheVariants as kind
@@ -157,17 +157,15 @@ mail_silent : (sc : Scenario) (w : State) (taken : Step) (mail : Option Mail) �
 mail_silent sc w taken None = refl
 mail_silent sc w taken (Some mail) = ap (λ (t : List ℕ). t ++ []) (fate_silent w taken mail (mail_line sc (length w.steps) (fate w taken mail) mail))
 
-torn_silent : (sc : Scenario) (place : ℕ) (who : Actor) (more : List Record) (forced : Option Record) → IsSilent (torn_lines sc place who more forced)
-torn_silent sc place who [] None = refl
-torn_silent sc place who [] (Some forced) = refl
-torn_silent sc place who (first ∷ others) None = refl
-torn_silent sc place who (first ∷ others) (Some forced) = refl
+kind_silent : (torn : Bool) (line : Line) → told_by (forced_or_torn torn) line ≡ []
+kind_silent true line = refl
+kind_silent false line = refl
 
-durable_silent : (sc : Scenario) (w : State) (taken : Step) (next : State) (who : Option Actor) → IsSilent (durable_lines sc w taken next who)
-durable_silent sc w taken next None = refl
-durable_silent sc w taken next (Some who) =
-    both_silent (map (record_line sc (length w.steps) kind.Forced who) (gained w next who)) (torn_lines sc (length w.steps) who (gained w next who) (cut_off sc w taken))
-    (map_silent (record_line sc (length w.steps) kind.Forced who) (gained w next who) (λ kept. refl)) (torn_silent sc (length w.steps) who (gained w next who) (cut_off sc w taken))
+durable_silent : (sc : Scenario) (place : ℕ) (torn : Bool) (who : Option Actor) (forced : Option Record) → IsSilent (durable_lines sc place torn who forced)
+durable_silent sc place torn None None = refl
+durable_silent sc place torn None (Some forced) = refl
+durable_silent sc place torn (Some who) None = refl
+durable_silent sc place torn (Some who) (Some forced) = ap (λ (t : List ℕ). t ++ []) (kind_silent torn (record_line sc place (forced_or_torn torn) who forced))
 
 -- ---- what changed
 
@@ -225,19 +223,22 @@ seen_silent sc place at before after =
     (both_silent (frees ++ locks) knows (both_silent frees locks (frees_silent sc place at 0 before after items) (locks_silent sc place at 0 before after items)) (knows_silent sc place at 0 before.known after.known))
     (values_silent sc place at 0 before.values after.values items)
 
-changed_silent : (sc : Scenario) (place : ℕ) (at : ServerId) (before after : Option Server) (old new : List Record) → IsSilent (changed_lines sc place at before after old new)
-changed_silent sc place at before (Some s) old new = seen_silent sc place at (seen_up (items_of sc at) before) (seen_of (items_of sc at) s)
-changed_silent sc place at (Some _) None old new =
-    values_silent sc place at 0 (values_left sc at (items_of sc at) old) (values_left sc at (items_of sc at) new) (items_of sc at)
-changed_silent sc place at None None old new = refl
+left_silent : (sc : Scenario) (place : ℕ) (at : ServerId) (s : Server) (ended : Option TxnId) → IsSilent (left_lines sc place at s ended)
+left_silent sc place at s None = refl
+left_silent sc place at s (Some txn) = values_silent sc place at 0 (seen_of (items_of sc at) s).values (values_to (items_of sc at) s txn) (items_of sc at)
 
-state_silent : (sc : Scenario) (w next : State) (who : Option Actor) → IsSilent (state_lines sc w next who)
-state_silent sc w next None = refl
-state_silent sc w next (Some (actor.Server at)) =
-    changed_silent sc (length w.steps) at (server_at w.actors at) (server_at next.actors at) (records_of w.actors (actor.Server at)) (records_of next.actors (actor.Server at))
-state_silent sc w next (Some (actor.Coordinator txn)) = refl
-state_silent sc w next (Some actor.Master) = refl
-state_silent sc w next (Some actor.Authority) = refl
+changed_silent : (sc : Scenario) (place : ℕ) (at : ServerId) (before after : Option Server) (ended : Option TxnId) → IsSilent (changed_lines sc place at before after ended)
+changed_silent sc place at before (Some s) ended = seen_silent sc place at (seen_up (items_of sc at) before) (seen_of (items_of sc at) s)
+changed_silent sc place at (Some s) None ended = left_silent sc place at s ended
+changed_silent sc place at None None ended = refl
+
+state_silent : (sc : Scenario) (w : State) (taken : Step) (next : State) (who : Option Actor) → IsSilent (state_lines sc w taken next who)
+state_silent sc w taken next None = refl
+state_silent sc w taken next (Some (actor.Server at)) =
+    changed_silent sc (length w.steps) at (server_at w.actors at) (server_at next.actors at) (ended_if (leaves_commit (is_torn taken) (logged sc w taken)) (mail_at w taken))
+state_silent sc w taken next (Some (actor.Coordinator txn)) = refl
+state_silent sc w taken next (Some actor.Master) = refl
+state_silent sc w taken next (Some actor.Authority) = refl
 
 server_silent : (sc : Scenario) (place : ℕ) (at : ServerId) (before after : Option Server) → IsSilent (server_now sc place at before after)
 server_silent sc place at None None = refl
@@ -257,20 +258,21 @@ now_silent sc w next (Some actor.Authority) = refl
 between_told : (sc : Scenario) (w : State) (taken : Step) (next : State) → told (lines_between sc w taken next) ≡ text_of (flat_map (fact_tokens sc) (drop (length w.facts) next.facts))
 between_told sc w taken next =
     let fate = fate_lines sc w taken (mail_at w taken) in
-    let durable = durable_lines sc w taken next (acting w taken) in
+    let who = moved_by w.mails taken in
+    let durable = durable_lines sc (length w.steps) (is_torn taken) who (logged sc w taken) in
     let facts = all_told sc next.facts (drop (length w.facts) next.facts) in
-    let changed = state_lines sc w next (acting w taken) in
+    let changed = state_lines sc w taken next who in
     let sent = map (mail_line sc (length w.steps) kind.Sent) (drop (length w.mails) next.mails) in
     let text = text_of (flat_map (fact_tokens sc) (drop (length w.facts) next.facts)) in
-    front_told (fate ++ durable ++ facts ++ changed ++ sent) (now_lines sc w next (acting w taken)) text
+    front_told (fate ++ durable ++ facts ++ changed ++ sent) (now_lines sc w next who) text
     (front_told (fate ++ durable ++ facts ++ changed) sent text
     (front_told (fate ++ durable ++ facts) changed text
     (behind_told (fate ++ durable) facts text
-    (both_silent fate durable (mail_silent sc w taken (mail_at w taken)) (durable_silent sc w taken next (acting w taken)))
+    (both_silent fate durable (mail_silent sc w taken (mail_at w taken)) (durable_silent sc (length w.steps) (is_torn taken) who (logged sc w taken)))
     (facts_told sc next.facts (drop (length w.facts) next.facts)))
-    (state_silent sc w next (acting w taken)))
+    (state_silent sc w taken next who))
     (map_silent (mail_line sc (length w.steps) kind.Sent) (drop (length w.mails) next.mails) (λ mail. refl)))
-    (now_silent sc w next (acting w taken))
+    (now_silent sc w next who)
 
 block_told : (sc : Scenario) (listed : Bool) (m : Machine) (taken : Step) → told (block sc listed m taken) ≡ text_of (flat_map (fact_tokens sc) (drop (length m.state.facts) (after_step sc m taken).state.facts))
 block_told sc true m taken = between_told sc m.state taken (after_step sc m taken).state

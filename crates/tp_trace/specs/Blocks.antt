@@ -1,12 +1,17 @@
 -- The block of a step, and a whole trace.
-use Rattle.std.specs.Prelude.{◌≡◌, ℕ, List, [], ◌∷◌, ◌++◌, length, map, drop, slice_get, Bool, true, false, nat_lt, Option, Some, None, codes, decimal, option_map, if◌then◌else◌}
+use Rattle.std.specs.Prelude.{◌≡◌, ℕ, List, [], ◌∷◌, ◌++◌, ◌&&◌, length, map, drop, slice_get, Bool, true, false, not, nat_lt, Option, Some, None, codes, decimal, option_and_then, if◌then◌else◌}
 use Rattle.std.specs.List.{flat_map}
-use Rattle.tp_machine.specs.Logs.{records_of}
+use Rattle.std.specs.Option.{option_map_or}
+use Rattle.tp_log.specs.Logs.{is_kept}
 use Rattle.tp_machine.specs.Machine.{Machine, State, after, after_step, ending_of, is_down, opening}
-use Rattle.tp_machine.specs.Views.{coordinator_at, cut_off, server_at}
+use Rattle.tp_machine.specs.Moves.{logged, moved_by}
+use Rattle.tp_machine.specs.Views.{coordinator_at, server_at}
+use Rattle.tp_model.specs.Facts.{same_outcome}
 use Rattle.tp_model.specs.Ids.{same_name}
 use Rattle.tp_model.specs.Words.{Actor, Ending, Mail, Record, Scenario, ServerId, Step, TxnId}
 use Rattle.tp_model.specs.Words.actor
+use Rattle.tp_model.specs.Words.log
+use Rattle.tp_model.specs.Words.outcome
 use Rattle.tp_model.specs.Words.step
 use Rattle.tp_report.specs.ReportText.{quiet_tokens, server_name, server_tokens, txn_name}
 use Rattle.tp_report.specs.StepText.{step_text}
@@ -24,18 +29,6 @@ use Rattle.tp_trace.specs.declared.lines.Kind.TheVariants as kind
 abbrev pub step_kind : Bool → Kind
 step_kind true = kind.Listed
 step_kind false = kind.Automatic
-
-abbrev pub recipient : Mail → Actor
-recipient mail = mail.letter.to
-
--- the actor whose log and state a step may change
-abbrev pub acting : State → Step → Option Actor
-acting w (step.Submit txn) = Some (actor.Coordinator txn)
-acting w (step.Deliver mail) = option_map recipient (slice_get w.mails mail)
-acting w (step.Timer txn) = Some (actor.Coordinator txn)
-acting w (step.Crash who cut) = Some who
-acting w (step.Boot who) = Some who
-acting w _ = None
 
 -- the mail that a step delivers or loses
 abbrev pub mail_at : State → Step → Option Mail
@@ -60,31 +53,49 @@ fate_lines sc w taken (Some mail) = mail_line sc (length w.steps) (fate w taken 
 
 -- ---- what became durable
 
--- the records that an actor's log has gained
-abbrev pub gained : State → State → Actor → List Record
-gained w next who = drop (length (records_of w.actors who)) (records_of next.actors who)
+-- whether the actor crashes before the record that the step has it force stands on its log
+abbrev pub is_torn : Step → Bool
+is_torn (step.Crash who (Some cut)) = not (is_kept cut.calls cut.fill)
+is_torn _ = false
 
--- a record that was to be forced, where the log gained none
-abbrev pub torn_lines : Scenario → ℕ → Actor → List Record → Option Record → List Line
-torn_lines sc place who [] (Some forced) = record_line sc place kind.Torn who forced ∷ []
-torn_lines sc place who _ _ = []
+abbrev pub forced_or_torn : Bool → Kind
+forced_or_torn true = kind.Torn
+forced_or_torn false = kind.Forced
 
-abbrev pub log_lines : Scenario → ℕ → Actor → List Record → Option Record → List Line
-log_lines sc place who more forced =
-    map (record_line sc place kind.Forced who) more ++ torn_lines sc place who more forced
-
-abbrev pub durable_lines : Scenario → State → Step → State → Option Actor → List Line
-durable_lines sc w taken next None = []
-durable_lines sc w taken next (Some who) =
-    log_lines sc (length w.steps) who (gained w next who) (cut_off sc w taken)
+-- the record that the step has its actor force, if there is one
+abbrev pub durable_lines : Scenario → ℕ → Bool → Option Actor → Option Record → List Line
+durable_lines sc place torn (Some who) (Some forced) =
+    record_line sc place (forced_or_torn torn) who forced ∷ []
+durable_lines sc place torn _ _ = []
 
 -- ---- what changed
 
-abbrev pub state_lines : Scenario → State → State → Option Actor → List Line
-state_lines sc w next (Some (actor.Server at)) =
+-- the transaction whose coordinator sent a mail
+abbrev pub sender_of : Actor → Option TxnId
+sender_of (actor.Coordinator txn) = Some txn
+sender_of _ = None
+
+abbrev pub ended_by : Mail → Option TxnId
+ended_by mail = sender_of mail.letter.from
+
+-- a record says that a transaction has committed at its server
+abbrev pub is_commit : Record → Bool
+is_commit (log.Settled s) = same_outcome s.outcome outcome.Commit
+is_commit _ = false
+
+-- the crash of a step leaves such a record on the log
+abbrev pub leaves_commit : Bool → Option Record → Bool
+leaves_commit torn forced = not torn && option_map_or is_commit forced false
+
+abbrev pub ended_if : Bool → Option Mail → Option TxnId
+ended_if true mail = option_and_then ended_by mail
+ended_if false mail = None
+
+abbrev pub state_lines : Scenario → State → Step → State → Option Actor → List Line
+state_lines sc w taken next (Some (actor.Server at)) =
     changed_lines sc (length w.steps) at (server_at w.actors at) (server_at next.actors at)
-    (records_of w.actors (actor.Server at)) (records_of next.actors (actor.Server at))
-state_lines sc w next _ = []
+    (ended_if (leaves_commit (is_torn taken) (logged sc w taken)) (mail_at w taken))
+state_lines sc w taken next _ = []
 
 -- a server went down, or came up
 abbrev pub server_now : Scenario → ℕ → ServerId → Option Server → Option Server → List Line
@@ -110,15 +121,16 @@ now_lines sc w next _ = []
 -- ---- a block
 
 -- what stands behind the line of a step: what arrived, what was forced, what became a fact, what changed, what was sent, and what
--- is now awaited. Each is the end of a list that grew, or what differs in the actor that acted
+-- is now awaited. Facts and mails are the end of a list that grew; else it is what differs in the actor whom the step moves
 abbrev pub lines_between : Scenario → State → Step → State → List Line
 lines_between sc w taken next =
     fate_lines sc w taken (mail_at w taken)
-    ++ durable_lines sc w taken next (acting w taken)
+    ++ durable_lines sc (length w.steps) (is_torn taken) (moved_by w.mails taken)
+    (logged sc w taken)
     ++ all_told sc next.facts (drop (length w.facts) next.facts)
-    ++ state_lines sc w next (acting w taken)
+    ++ state_lines sc w taken next (moved_by w.mails taken)
     ++ map (mail_line sc (length w.steps) kind.Sent) (drop (length w.mails) next.mails)
-    ++ now_lines sc w next (acting w taken)
+    ++ now_lines sc w next (moved_by w.mails taken)
 
 abbrev pub block_between : Scenario → Bool → State → Step → State → List Line
 block_between sc listed w taken next =

@@ -5,6 +5,7 @@ pub mod Lines
 pub mod Phases
 pub mod Records
 pub mod Seen
+pub mod Telling
 pub mod Told
 pub mod Why
 pub mod Words

@@ -9,10 +9,10 @@ use Rattle.tp_lock.specs.Table.{Table}
 use Rattle.tp_lock.specs.declared.entry.LockEntry.{LockEntry}
 use Rattle.tp_model.specs.Ids.{same_txn, same_version}
 use Rattle.tp_model.specs.Policies.{same_action}
-use Rattle.tp_model.specs.Words.{ItemId, Record, Scenario, ServerDecl, ServerId, Version}
-use Rattle.tp_recover.specs.Kept.{kept}
+use Rattle.tp_model.specs.Words.{ItemId, Scenario, ServerDecl, ServerId, TxnId, Version}
 use Rattle.tp_report.specs.ReportText.{action_word, admin_name, item_name, server_name, txn_name}
 use Rattle.tp_server.specs.State.{Server}
+use Rattle.tp_store.specs.Rule.{read_in}
 use Rattle.tp_trace.specs.Lines.{Line, line_of}
 use Rattle.tp_trace.specs.declared.lines.Kind.TheVariants as kind
 use Rattle.tp_trace.specs.declared.seen.Seen.{Seen}
@@ -46,9 +46,9 @@ abbrev pub seen_up : List ItemId → Option Server → Seen
 seen_up items None = nothing_seen
 seen_up items (Some s) = seen_of items s
 
--- the values of the items as a log leaves them
-abbrev pub values_left : Scenario → ServerId → List ItemId → List Record → List ℤ
-values_left sc at items records = map (value_in (kept sc at records).values) items
+-- the values of the items to a transaction: what it has written itself, or else the item's
+abbrev pub values_to : List ItemId → Server → TxnId → List ℤ
+values_to items s txn = map (read_in s.store txn) items
 
 -- ---- locks
 
@@ -160,16 +160,18 @@ seen_lines sc place at before after =
     ++ knows_from sc place at 0 before.known after.known
     ++ values_from sc place at 0 before.values after.values (items_of sc at)
 
--- the values that a crash leaves of the log, which may have gained the end of a transaction
-abbrev pub left_lines : Scenario → ℕ → ServerId → List Record → List Record → List Line
-left_lines sc place at before after =
-    values_from sc place at 0 (values_left sc at (items_of sc at) before)
-    (values_left sc at (items_of sc at) after) (items_of sc at)
+-- the values that a crash leaves: those that the server had, with the writes of the transaction whose commit the log has
+-- gained, if there is one
+abbrev pub left_lines : Scenario → ℕ → ServerId → Server → Option TxnId → List Line
+left_lines sc place at s None = []
+left_lines sc place at s (Some txn) =
+    values_from sc place at 0 (seen_of (items_of sc at) s).values (values_to (items_of sc at) s txn)
+    (items_of sc at)
 
--- what changed in a server between these states and logs; of one that was down before, against nothing
-abbrev pub changed_lines : Scenario → ℕ → ServerId → Option Server → Option Server → List Record
-    → List Record → List Line
-changed_lines sc place at before (Some s) old new =
+-- what changed in a server between these states; of one that was down before, against nothing
+abbrev pub changed_lines : Scenario → ℕ → ServerId → Option Server → Option Server → Option TxnId
+    → List Line
+changed_lines sc place at before (Some s) ended =
     seen_lines sc place at (seen_up (items_of sc at) before) (seen_of (items_of sc at) s)
-changed_lines sc place at (Some _) None old new = left_lines sc place at old new
-changed_lines sc place at None None old new = []
+changed_lines sc place at (Some s) None ended = left_lines sc place at s ended
+changed_lines sc place at None None ended = []

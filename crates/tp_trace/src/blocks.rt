@@ -1,30 +1,27 @@
-//! The block of a step: the step is done, and what it did is put.
-ghost use Rattle.std.specs.Prelude.{◌≡◌, ◌≢◌, ◌-◌, ◌++◌, List, IfErr, IfOk, OnOk, drop, length, take};
-ghost use Rattle.std.specs.Option.{option_copied};
-ghost use Rattle.tp_machine.specs.Logs.{records_of};
-ghost use Rattle.tp_machine.specs.Named.{IsStepOf};
+//! The block of a step: what is put and noted before it, and what is put once it is done.
+ghost use Rattle.std.specs.Prelude.{◌≡◌, ◌++◌, IfOk, OnOk, drop, length};
+ghost use Rattle.std.specs.Option.{option_and_then, option_copied};
+ghost use Rattle.tp_machine.specs.Moves.{moved_by};
 ghost use Rattle.tp_machine.specs.Views.{server_at};
-ghost use Rattle.tp_model.specs.Words.actor;
-ghost use Rattle.tp_model.specs.Words.{Record};
-ghost use Rattle.tp_machine.specs.WorldView.{Does, Refuses};
 ghost use Rattle.tp_trace.specs.Blocks as blocks;
 ghost use Rattle.tp_trace.specs.Lines.{line_of, line_text, lines_text};
 ghost use Rattle.tp_report.specs.StepText.{step_text};
 ghost use Rattle.tp_trace.specs.Seen as seen;
 ghost use Rattle.tp_trace.specs.mirrors.Noted as mirror;
 
-use crate::lines::{
-    Kind, put_front, put_mail_line, put_mail_lines, put_record_line, put_record_lines,
-};
+use crate::lines::{Kind, put_front, put_mail_line, put_mail_lines, put_record_line};
 use crate::phases::awaits;
-use crate::seen::{Seen, items_of, nothing_seen, put_left, put_seen, see};
+use crate::seen::{Seen, items_of, nothing_seen, put_seen, put_values, see, values_to};
 use crate::told::put_all_told;
 use std::alloc::Global;
-use tp_machine::{Locks, StepError, World};
+use tp_log::is_kept;
+use tp_machine::{Locks, World, moved_by};
 use tp_report::piece::{put, put_after, put_server, put_txn};
 use tp_report::put_step_text;
 use tp_server::Server;
-use tp_types::{Actor, List, Mail, NoMemory, Place, Record, Scenario, ServerId, Step, TxnId, both};
+use tp_types::{
+    Actor, List, Mail, NoMemory, Outcome, Place, Record, Scenario, ServerId, Step, TxnId, both,
+};
 
 /// What is noted before a step, for the lines that tell what it changed.
 #[derive(Drop)]
@@ -33,35 +30,20 @@ pub struct Noted {
     pub place: Place,
     pub facts: usize,
     pub mails: usize,
-    /// The actor whose log and state the step may change.
+    /// The actor whom the step moves.
     pub actor: Option<Actor>,
-    /// Where its log ends, in bytes.
-    pub log_end: u64,
-    /// What is seen of it, if it is a server that the step does not crash, and whether that is up.
+    /// Whether it crashes before the record that the step has it force stands on its log.
+    pub torn: bool,
+    /// What is seen of it, if it is a server, and whether that is up.
     pub seen: Seen,
     pub was_up: bool,
+    /// The values of its items to the transaction whose coordinator sent the mail that it receives.
+    pub left: Option<List<i128>>,
     /// What it awaits, if it is a coordinator.
     pub awaited: List<u8>,
 }
 
 // ---- before the step
-
-/// The actor whose log and state a step may change.
-fn acting(world: &World, taken: &Step) -> Option<Actor>
-    ensures { result ≡ blocks.acting world.now.machine.state taken.now }
-{
-    match *taken {
-        Step::Submit { txn } => Some(Actor::Coordinator(txn)),
-        Step::Deliver { mail } => match world.sent().get(mail as usize) {
-            None => None,
-            Some(found) => Some(found.letter.to),
-        },
-        Step::Timer { txn } => Some(Actor::Coordinator(txn)),
-        Step::Crash { actor, .. } => Some(actor),
-        Step::Boot { actor } => Some(actor),
-        _ => None,
-    }
-}
 
 /// The mail that a step delivers or loses.
 fn mail_at<'a>(world: &'a World, taken: &Step) -> Option<&'a Mail>
@@ -133,42 +115,59 @@ fn step_kind(listed: bool) -> Kind
     }
 }
 
-fn end_of(alloc: Global, world: &World, actor: Option<Actor>) -> Result<u64, NoMemory>
-    ensures { IfOk result (λ place. place ≡ mirror.end_of world.now.machine.state actor) }
-{
-    match actor {
-        None => Ok(0),
-        Some(actor) => world.log_end(alloc, &actor),
-    }
-}
-
-fn is_crash(taken: &Step) -> bool
-    ensures { result ≡ mirror.is_crash taken.now }
+fn is_torn(taken: &Step) -> bool
+    ensures { result ≡ blocks.is_torn taken.now }
 {
     match *taken {
-        Step::Crash { .. } => true,
+        Step::Crash { cut: Some(cut), .. } => !is_kept(cut.calls, cut.fill),
         _ => false,
     }
 }
 
-/// What is seen of the actor, to be compared with what is seen after the step. One that crashes is down then, and nothing of it
-/// is compared.
-fn seen_before(
-    alloc: Global,
-    world: &World,
-    taken: &Step,
-    actor: Option<Actor>,
-) -> Result<Seen, NoMemory>
+/// What is seen of the actor, to be compared with what is seen after the step.
+fn seen_before(alloc: Global, world: &World, actor: Option<Actor>) -> Result<Seen, NoMemory>
     ensures { IfOk result (λ seen.
-        seen
-        ≡ mirror.seen_before world.now.scenario world.now.machine.state (mirror.is_crash taken.now)
-        actor) }
+        seen ≡ mirror.seen_before world.now.scenario world.now.machine.state actor) }
 {
     match actor {
-        Some(Actor::Server(at)) if !is_crash(taken) => {
-            see(alloc, items_of(world.scenario(), at), world.server(at))
-        }
+        Some(Actor::Server(at)) => see(alloc, items_of(world.scenario(), at), world.server(at)),
         _ => Ok(nothing_seen(alloc)),
+    }
+}
+
+fn ended_by(mail: Option<&Mail>) -> Option<TxnId>
+    ensures { result ≡ option_and_then blocks.ended_by (option_copied mail.entry) }
+{
+    match mail {
+        None => None,
+        Some(mail) => match mail.letter.from {
+            Actor::Coordinator(txn) => Some(txn),
+            _ => None,
+        },
+    }
+}
+
+/// What a server's items would be once the transaction has committed whose coordinator sent it this mail.
+fn left_before(
+    alloc: Global,
+    world: &World,
+    mail: Option<&Mail>,
+    actor: Option<Actor>,
+) -> Result<Option<List<i128>>, NoMemory>
+    ensures { IfOk result (λ left.
+        left
+        ≡ mirror.left_before world.now.scenario world.now.machine.state
+        (option_copied mail.entry) actor) }
+{
+    let Some(Actor::Server(at)) = actor else {
+        return Ok(None);
+    };
+    match (world.server(at), ended_by(mail)) {
+        (Some(server), Some(txn)) => {
+            let items = items_of(world.scenario(), at);
+            Ok(Some(values_to(alloc, items, &server.store, txn)?))
+        }
+        _ => Ok(None),
     }
 }
 
@@ -195,24 +194,26 @@ fn note(alloc: Global, world: &World, taken: &Step, actor: Option<Actor>) -> Res
     ensures { IfOk result (λ noted.
         noted ≡ mirror.noted_of world.now.scenario world.now.machine.state taken.now actor) }
 {
-    let log_end = end_of(alloc, world, actor)?;
-    let seen = seen_before(alloc, world, taken, actor);
-    let (seen, awaited) = both(seen, awaited_before(alloc, world, actor))?;
+    let seen = seen_before(alloc, world, actor);
+    let left = left_before(alloc, world, mail_at(world, taken), actor);
+    let awaited = awaited_before(alloc, world, actor);
+    let ((seen, left), awaited) = both(both(seen, left), awaited)?;
     Ok(Noted {
         place: world.steps().len() as u64,
         facts: world.facts().len(),
         mails: world.sent().len(),
         actor,
-        log_end,
+        torn: is_torn(taken),
         seen,
         was_up: was_up(world, actor),
+        left,
         awaited,
     })
 }
 
 /// Puts a step, with what becomes of its mail, and notes what it may change.
 #[tactic(auto, using(crate::proofs::LineLemmas::lines_append))]
-fn put_begun(
+pub(crate) fn put_begun(
     out: &mut Vec<u8>,
     alloc: Global,
     world: &World,
@@ -225,11 +226,16 @@ fn put_begun(
         ++ lines_text (mirror.begun world.now.scenario listed world.now.machine.state taken.now)) }
     ensures noted { IfOk result (λ noted.
         noted ≡ mirror.noted_of world.now.scenario world.now.machine.state taken.now
-        (blocks.acting world.now.machine.state taken.now)) }
+        (moved_by world.now.machine.state.mails taken.now)) }
 {
     put_step_line(out, world, listed, taken)?;
     put_fate(out, world, taken)?;
-    note(alloc, world, taken, acting(world, taken))
+    note(
+        alloc,
+        world,
+        taken,
+        moved_by(world.sent().as_slice(), taken),
+    )
 }
 
 // ---- after it
@@ -244,103 +250,65 @@ fn behind<T>(members: &[T], place: usize) -> &[T]
     }
 }
 
-/// The records that the log of the actor has gained.
-fn gained(alloc: Global, world: &World, noted: &Noted) -> Result<List<Record>, NoMemory>
-    requires { mirror.HasMore world.now.machine.state.actors noted.now.actor noted.now.log_end }
-    ensures { IfOk result (λ records.
-        mirror.AreMore world.now.machine.state.actors noted.now.actor noted.now.log_end records) }
+fn forced_or_torn(torn: bool) -> Kind
+    ensures { result ≡ blocks.forced_or_torn torn }
 {
-    match noted.actor {
-        None => Ok(List::new(alloc)),
-        Some(actor) => world.records_behind(alloc, &actor, noted.log_end),
-    }
+    if torn { Kind::Torn } else { Kind::Forced }
 }
 
-/// Puts a record that was to be forced, where the log gained none.
-fn put_torn(
+/// Puts the record that the step had the actor force.
+fn put_durable(
     out: &mut Vec<u8>,
     scenario: &Scenario,
-    place: Place,
-    actor: Actor,
-    more: &List<Record>,
+    noted: &Noted,
     forced: &Option<Record>,
 ) -> Result<(), NoMemory>
     ensures { OnOk result
         (out.new.items
         ≡ out.old.items
-        ++ lines_text (blocks.torn_lines scenario.now place actor more.now forced.now)) }
+        ++ lines_text (blocks.durable_lines scenario.now noted.now.place noted.now.torn
+        noted.now.actor forced.now)) }
 {
-    match forced {
-        Some(record) if more.is_empty() => {
-            put_record_line(out, scenario, place, Kind::Torn, actor, record)
+    match (noted.actor, forced) {
+        (Some(actor), Some(record)) => {
+            let kind = forced_or_torn(noted.torn);
+            put_record_line(out, scenario, noted.place, kind, actor, record)
         }
         _ => Ok(()),
     }
 }
 
-/// Puts what the log of the actor has gained.
-#[tactic(auto, using(crate::proofs::LineLemmas::lines_append))]
-fn put_durable(
-    out: &mut Vec<u8>,
-    scenario: &Scenario,
-    noted: &Noted,
-    more: &List<Record>,
-    forced: &Option<Record>,
-) -> Result<(), NoMemory>
-    ensures { OnOk result
-        (out.new.items
-        ≡ out.old.items
-        ++ lines_text (mirror.durable_from scenario.now noted.now.place noted.now.actor more.now
-        forced.now)) }
+/// Whether a record that was not torn says that a transaction has committed at its server.
+fn leaves_commit(torn: bool, forced: &Option<Record>) -> bool
+    ensures { result ≡ blocks.leaves_commit torn forced.now }
 {
-    match noted.actor {
-        None => Ok(()),
-        Some(actor) => {
-            let records = more.as_slice();
-            put_record_lines(out, scenario, noted.place, Kind::Forced, actor, records)?;
-            put_torn(out, scenario, noted.place, actor, more, forced)
-        }
+    match forced {
+        Some(Record::Settled(settled)) => !torn && settled.outcome == Outcome::Commit,
+        _ => false,
     }
-}
-
-/// The log without the last records, so many.
-fn log_before(
-    alloc: Global,
-    world: &World,
-    at: ServerId,
-    more: usize,
-) -> Result<List<Record>, NoMemory>
-    ensures { IfOk result (λ records.
-        records
-        ≡ take (length (records_of world.now.machine.state.actors (actor.Server at)) - more)
-        (records_of world.now.machine.state.actors (actor.Server at))) }
-{
-    let mut records = world.records(alloc, &Actor::Server(at))?;
-    records.truncate(records.len().saturating_sub(more));
-    Ok(records)
 }
 
 /// Puts the values that a crash leaves.
-fn put_crashed(
+fn put_left(
     out: &mut Vec<u8>,
-    alloc: Global,
-    world: &World,
-    place: Place,
+    scenario: &Scenario,
+    noted: &Noted,
     at: ServerId,
-    more: &List<Record>,
+    commit: bool,
 ) -> Result<(), NoMemory>
     ensures { OnOk result
         (out.new.items
         ≡ out.old.items
-        ++ lines_text (mirror.left_from world.now.scenario place at more.now
-        (records_of world.now.machine.state.actors (actor.Server at)))) }
+        ++ lines_text (mirror.left_from scenario.now noted.now.place at commit
+        noted.now.seen.values noted.now.left)) }
 {
-    if more.is_empty() {
-        return Ok(());
+    match &noted.left {
+        Some(after) if commit => {
+            let before = noted.seen.values.as_slice();
+            put_values(out, scenario, noted.place, at, before, after.as_slice())
+        }
+        _ => Ok(()),
     }
-    let before = log_before(alloc, world, at, more.len());
-    let (before, after) = both(before, world.records(alloc, &Actor::Server(at)))?;
-    put_left(out, alloc, world.scenario(), place, at, &before, &after)
 }
 
 /// Puts what changed in a server.
@@ -350,18 +318,20 @@ fn put_changed(
     world: &World,
     noted: &Noted,
     at: ServerId,
-    more: &List<Record>,
+    forced: &Option<Record>,
 ) -> Result<(), NoMemory>
     ensures { OnOk result
         (out.new.items
         ≡ out.old.items
-        ++ lines_text (mirror.changed_from world.now.scenario noted.now.place at noted.now.was_up
-        noted.now.seen (server_at world.now.machine.state.actors at) more.now
-        (records_of world.now.machine.state.actors (actor.Server at)))) }
+        ++ lines_text (mirror.changed_from world.now.scenario noted.now at noted.now.was_up
+        forced.now (server_at world.now.machine.state.actors at))) }
 {
+    let scenario = world.scenario();
     match world.server(at) {
-        Some(server) => put_seen_now(out, alloc, world.scenario(), noted, at, server),
-        None if noted.was_up => put_crashed(out, alloc, world, noted.place, at, more),
+        Some(server) => put_seen_now(out, alloc, scenario, noted, at, server),
+        None if noted.was_up => {
+            put_left(out, scenario, noted, at, leaves_commit(noted.torn, forced))
+        }
         None => Ok(()),
     }
 }
@@ -390,16 +360,16 @@ fn put_state(
     alloc: Global,
     world: &World,
     noted: &Noted,
-    more: &List<Record>,
+    forced: &Option<Record>,
 ) -> Result<(), NoMemory>
     ensures { OnOk result
         (out.new.items
         ≡ out.old.items
-        ++ lines_text (mirror.state_from world.now.scenario noted.now noted.now.actor more.now
+        ++ lines_text (mirror.state_from world.now.scenario noted.now noted.now.actor forced.now
         world.now.machine.state)) }
 {
     match noted.actor {
-        Some(Actor::Server(at)) => put_changed(out, alloc, world, noted, at, more),
+        Some(Actor::Server(at)) => put_changed(out, alloc, world, noted, at, forced),
         _ => Ok(()),
     }
 }
@@ -481,92 +451,28 @@ fn put_now(out: &mut Vec<u8>, alloc: Global, world: &World, noted: &Noted) -> Re
     }
 }
 
-/// Puts what a step did.
+/// Puts what a step did, which had its actor force this record.
 #[tactic(auto, using(crate::proofs::LineLemmas::lines_append))]
-fn put_lines(
+pub(crate) fn put_lines(
     out: &mut Vec<u8>,
     alloc: Global,
     world: &World,
     noted: &Noted,
-    more: &List<Record>,
     forced: &Option<Record>,
 ) -> Result<(), NoMemory>
     ensures { OnOk result
         (out.new.items
         ≡ out.old.items
-        ++ lines_text (mirror.lines_from world.now.scenario noted.now more.now forced.now
+        ++ lines_text (mirror.lines_from world.now.scenario noted.now forced.now
         world.now.machine.state)) }
 {
     let scenario = world.scenario();
     let facts = world.facts();
     let news = behind(facts.as_slice(), noted.facts);
     let sent = behind(world.sent().as_slice(), noted.mails);
-    put_durable(out, scenario, noted, more, forced)?;
+    put_durable(out, scenario, noted, forced)?;
     put_all_told(out, alloc, scenario, facts, news)?;
-    put_state(out, alloc, world, noted, more)?;
+    put_state(out, alloc, world, noted, forced)?;
     put_mail_lines(out, scenario, noted.place, Kind::Sent, sent)?;
     put_now(out, alloc, world, noted)
-}
-
-fn put_done(
-    out: &mut Vec<u8>,
-    alloc: Global,
-    world: &World,
-    noted: &Noted,
-    forced: &Option<Record>,
-) -> Result<(), NoMemory>
-    requires { mirror.HasMore world.now.machine.state.actors noted.now.actor noted.now.log_end }
-    ensures { OnOk result ((more : List Record)
-        → mirror.IsMore world.now.machine.state.actors noted.now.actor noted.now.log_end more
-        → out.new.items
-        ≡ out.old.items
-        ++ lines_text (mirror.lines_from world.now.scenario noted.now more forced.now
-        world.now.machine.state)) }
-{
-    let more = gained(alloc, world, noted)?;
-    let put = put_lines(out, alloc, world, noted, &more, forced);
-    drop(more);
-    put
-}
-
-/// Does a step, and puts its block. Where it is refused nothing is put.
-pub fn put_step(
-    out: &mut Vec<u8>,
-    alloc: Global,
-    world: &mut World,
-    listed: bool,
-    taken: &Step,
-) -> Result<(), StepError>
-    requires ids { IsStepOf world.old.scenario taken.now }
-    ensures does { OnOk result (Does world.old world.new taken.now) }
-    ensures text { OnOk result
-        (out.new.items
-        ≡ out.old.items
-        ++ lines_text (blocks.block world.old.scenario listed world.old.machine taken.now)) }
-    ensures refused { IfErr result (λ why. why ≢ StepError.NoMemory
-        → Refuses world.old world.new taken.now why) }
-    ensures nothing { IfErr result (λ why. why ≢ StepError.NoMemory
-        → out.new.items ≡ out.old.items) }
-{
-    let len = out.len();
-    let noted = match put_begun(out, alloc, world, listed, taken) {
-        Ok(noted) => noted,
-        Err(NoMemory) => return Err(StepError::NoMemory),
-    };
-    match world.step_with_cut(alloc, taken) {
-        Ok(forced) => {
-            let put = put_done(out, alloc, world, &noted, &forced);
-            drop(forced);
-            drop(noted);
-            match put {
-                Ok(()) => Ok(()),
-                Err(NoMemory) => Err(StepError::NoMemory),
-            }
-        }
-        Err(why) => {
-            drop(noted);
-            out.truncate(len);
-            Err(why)
-        }
-    }
 }

@@ -132,22 +132,3 @@ pub(crate) fn put_record_line(
     put_record(out, scenario, record)?;
     put(out, b"\n")
 }
-
-/// Puts the lines of records of an actor's log.
-pub(crate) fn put_record_lines(
-    out: &mut Vec<u8>,
-    scenario: &Scenario,
-    place: Place,
-    kind: Kind,
-    actor: Actor,
-    records: &[Record],
-) -> Result<(), NoMemory>
-    ensures { OnOk result
-        (out.new.items
-        ≡ out.old.items ++ lines_text (map (record_line scenario.now place kind actor) records.now)) }
-{
-    for record in records {
-        put_record_line(out, scenario, place, kind, actor, record)?;
-    }
-    Ok(())
-}

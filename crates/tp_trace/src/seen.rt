@@ -4,6 +4,7 @@ ghost use Rattle.std.specs.List.{flat_map, list_any};
 ghost use Rattle.std.specs.Option.{option_copied, option_map_or};
 ghost use Rattle.tp_model.specs.Ids.{same_version};
 ghost use Rattle.tp_model.specs.Policies.{same_action};
+ghost use Rattle.tp_store.specs.Rule.{read_in};
 ghost use Rattle.tp_trace.specs.Lines.{line_text, lines_text};
 ghost use Rattle.tp_trace.specs.Seen as seen;
 
@@ -12,12 +13,11 @@ use crate::words::{put_action, put_admin_at};
 use std::alloc::Global;
 use tp_lock::LockEntry;
 use tp_machine::Locks;
-use tp_recover::kept_of;
 use tp_report::piece::{put, put_after, put_item, put_server, put_txn};
 use tp_server::Server;
-use tp_store::Values;
+use tp_store::{Store, Values};
 use tp_types::{
-    Action, ItemId, List, NoMemory, Place, Record, Scenario, ServerId, TryClone, Version,
+    Action, ItemId, List, NoMemory, Place, Scenario, ServerId, TryClone, TxnId, Version,
 };
 
 /// What is seen of a server: the locks and the value of each of its items, and the versions that it knows. Nothing is seen of one
@@ -98,6 +98,22 @@ fn values_of(alloc: Global, items: &[ItemId], values: &Values) -> Result<List<i1
     let mut made = List::from_vec(Vec::with_capacity(alloc, items.len())?);
     for item in items {
         made.push(value_in(values, *item))?;
+    }
+    Ok(made)
+}
+
+/// The values of items to a transaction, which reads what it has written itself.
+pub(crate) fn values_to(
+    alloc: Global,
+    items: &[ItemId],
+    store: &Store,
+    txn: TxnId,
+) -> Result<List<i128>, NoMemory>
+    ensures { IfOk result (λ made. made ≡ map (read_in store.now txn) items.now) }
+{
+    let mut made = List::from_vec(Vec::with_capacity(alloc, items.len())?);
+    for item in items {
+        made.push(store.read(txn, *item))?;
     }
     Ok(made)
 }
@@ -498,7 +514,7 @@ fn number_at(values: &[i128], number: usize) -> Option<i128>
 
 /// Puts the values that are others now.
 #[tactic(auto, using(crate::proofs::LineLemmas::lines_append))]
-fn put_values(
+pub(crate) fn put_values(
     out: &mut Vec<u8>,
     scenario: &Scenario,
     place: Place,
@@ -556,38 +572,4 @@ pub(crate) fn put_seen(
         before.values.as_slice(),
         after.values.as_slice(),
     )
-}
-
-/// Puts the values that a crash leaves of a log, which may have gained the end of a transaction.
-pub(crate) fn put_left(
-    out: &mut Vec<u8>,
-    alloc: Global,
-    scenario: &Scenario,
-    place: Place,
-    at: ServerId,
-    before: &List<Record>,
-    after: &List<Record>,
-) -> Result<(), NoMemory>
-    ensures { OnOk result
-        (out.new.items
-        ≡ out.old.items
-        ++ lines_text (seen.left_lines scenario.now place at before.now after.now)) }
-{
-    let old = values_left(alloc, scenario, at, before)?;
-    let new = values_left(alloc, scenario, at, after)?;
-    put_values(out, scenario, place, at, old.as_slice(), new.as_slice())
-}
-
-/// The values of a server's items as a log leaves them.
-fn values_left(
-    alloc: Global,
-    scenario: &Scenario,
-    at: ServerId,
-    records: &List<Record>,
-) -> Result<List<i128>, NoMemory>
-    ensures { IfOk result (λ made.
-        made ≡ seen.values_left scenario.now at (seen.items_of scenario.now at) records.now) }
-{
-    let kept = kept_of(alloc, scenario, at, records)?;
-    values_of(alloc, items_of(scenario, at), &kept.values)
 }

@@ -9,31 +9,27 @@
 ghost use Rattle.std.specs.Prelude.{◌≡◌, ◌++◌, OnOk};
 ghost use Rattle.tp_machine.specs.Named.{IsStepOf};
 ghost use Rattle.tp_machine.specs.WorldView.{Does};
-ghost use Rattle.tp_trace.specs.Blocks as blocks;
 ghost use Rattle.tp_trace.specs.Bodies as bodies;
-ghost use Rattle.tp_trace.specs.Lines.{lines_text};
+ghost use Rattle.tp_trace.specs.Telling.{Tells};
 
 use std::alloc::Global;
 use tp_machine::{StepError, World};
-use tp_trace::{put_mail, put_step};
+use tp_trace::{Telling, put_mail};
 use tp_types::{Mail, NoMemory, Scenario, Step};
 
 /// Does a step, and tells it by its block.
 pub fn tell_step(
-    out: &mut Vec<u8>,
+    telling: &mut Telling,
     alloc: Global,
     world: &mut World,
-    listed: bool,
     taken: &Step,
 ) -> Result<(), StepError>
-    requires { IsStepOf world.old.scenario taken.now }
+    requires exists { IsStepOf world.old.scenario taken.now }
+    requires so_far { Tells telling.old world.old }
     ensures does { OnOk result (Does world.old world.new taken.now) }
-    ensures text { OnOk result
-        (out.new.items
-        ≡ out.old.items
-        ++ lines_text (blocks.block world.old.scenario listed world.old.machine taken.now)) }
+    ensures told { OnOk result (Tells telling.new world.new) }
 {
-    put_step(out, alloc, world, listed, taken)
+    world.step(alloc, telling, taken)
 }
 
 /// Tells a mail by its number, from whom it is, to whom, and what it says, and lets it go.

@@ -2,7 +2,7 @@
 //! no record is lost. The test passes where no memory is refused; `tools/refused_memory` refuses each allocation of it in turn.
 use crate::run::FIRST;
 use tp_auto::next;
-use tp_machine::{StepError, World};
+use tp_machine::{Nobody, StepError, World};
 use tp_runs::history::start;
 use tp_scenario::read;
 use tp_types::{Actor, ServerId, Step, TxnId};
@@ -114,7 +114,7 @@ fn has_no_ending(rt: &impl AllocGlobal, world: &World) -> bool {
 /// Whether a world that was refused memory in a step is given up, shows what it showed, and answers so from then on.
 fn is_given_up(rt: &impl AllocGlobal, world: &mut World, before: Shown) -> bool {
     let kept = logged_by(world);
-    let again = match world.step(rt.alloc(), &Step::Tick { by: 1 }) {
+    let again = match world.step(rt.alloc(), &mut Nobody, &Step::Tick { by: 1 }) {
         Err(StepError::NoMemory) => true,
         _ => false,
     };
@@ -131,7 +131,7 @@ fn runs(rt: &impl AllocGlobal, world: &mut World) -> bool {
         let (before, kept) = (shown_by(world), logged_by(world));
         match next(world, 0) {
             None => return !world.given_up(),
-            Some(step) => match world.step(rt.alloc(), &step) {
+            Some(step) => match world.step(rt.alloc(), &mut Nobody, &step) {
                 Ok(()) => {}
                 Err(StepError::NoMemory) => {
                     return is_kept(kept, logged_by(world)) && is_given_up(rt, world, before);

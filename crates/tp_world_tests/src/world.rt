@@ -7,7 +7,7 @@ use std::marker::Brand;
 use std::process::Abort;
 use std::sync::ledger::{Blank, Ledger};
 use tp_auto::{drain, next};
-use tp_machine::{StepError, World};
+use tp_machine::{Nobody, StepError, World};
 use tp_runs::history::start as start_of;
 use tp_scenario::read;
 use tp_types::{Fact, Step, Steps, TxnId, What};
@@ -23,9 +23,9 @@ fn start(rt: &(impl Abort + AllocGlobal)) -> World {
 
 /// Lets time pass twice, up to the last moment, and answers where the clock stands as a further tick is refused.
 fn last_moment(rt: &impl AllocGlobal, world: &mut World) -> Option<u64> {
-    let first = world.step(rt.alloc(), &Step::Tick { by: 5 });
-    let second = world.step(rt.alloc(), &Step::Tick { by: LAST - 5 });
-    let third = world.step(rt.alloc(), &Step::Tick { by: 1 });
+    let first = world.step(rt.alloc(), &mut Nobody, &Step::Tick { by: 5 });
+    let second = world.step(rt.alloc(), &mut Nobody, &Step::Tick { by: LAST - 5 });
+    let third = world.step(rt.alloc(), &mut Nobody, &Step::Tick { by: 1 });
     match (first, second, third) {
         (Ok(()), Ok(()), Err(StepError::TooLate { clock })) => Some(clock),
         _ => None,
@@ -64,7 +64,7 @@ fn lets_time_pass_up_to_the_last_moment(rt: HostRuntime) {
 
 /// How many steps and mails there are once the world was drained, where no step is next in it.
 fn drained(rt: &impl AllocGlobal, world: &mut World) -> Option<(usize, u64)> {
-    match (drain(rt.alloc(), world), next(world, 0)) {
+    match (drain(rt.alloc(), world, &mut Nobody), next(world, 0)) {
         (Ok(()), None) => Some((world.steps().len(), world.mails())),
         _ => None,
     }
@@ -89,7 +89,7 @@ fn submit(rt: &impl AllocGlobal, world: &mut World) -> bool {
         return false;
     }
     world
-        .step(rt.alloc(), &Step::Submit { txn: TxnId(0) })
+        .step(rt.alloc(), &mut Nobody, &Step::Submit { txn: TxnId(0) })
         .is_ok()
 }
 
@@ -98,7 +98,7 @@ fn fire(rt: &impl AllocGlobal, world: &mut World) -> Option<(u64, bool)> {
     if world.scenario().txns.len() == 0 {
         return None;
     }
-    match world.step(rt.alloc(), &Step::Timer { txn: TxnId(0) }) {
+    match world.step(rt.alloc(), &mut Nobody, &Step::Timer { txn: TxnId(0) }) {
         Ok(()) => Some((world.mails(), world.armed(TxnId(0)))),
         Err(_) => None,
     }
@@ -106,7 +106,7 @@ fn fire(rt: &impl AllocGlobal, world: &mut World) -> Option<(u64, bool)> {
 
 /// Delivers a mail, and fires the timer after it.
 fn deliver_and_fire(rt: &impl AllocGlobal, world: &mut World, mail: u64) -> Option<(u64, bool)> {
-    match world.step(rt.alloc(), &Step::Deliver { mail }) {
+    match world.step(rt.alloc(), &mut Nobody, &Step::Deliver { mail }) {
         Ok(()) => fire(rt, world),
         Err(_) => None,
     }
@@ -142,7 +142,7 @@ fn oldest_before_and_after_loss<L: Ledger>(
 {
     let mut steps: Steps<L> = Steps::none(blank);
     let before = world.oldest(&mut steps);
-    match world.step(rt.alloc(), &Step::Lose { mail: 0 }) {
+    match world.step(rt.alloc(), &mut Nobody, &Step::Lose { mail: 0 }) {
         Ok(()) => (before, world.oldest(&mut steps)),
         Err(_) => (before, before),
     }

@@ -4,9 +4,11 @@ use Rattle.std.specs.Option.{option_map_or}
 use Rattle.tp_types.specs.Effect.{Effect, Gives}
 use Rattle.tp_types.specs.declared.mail.Reaction.{Reaction}
 use Rattle.tp_model.specs.Words.{Cut, Letter, Record, What}
-use Rattle.tp_machine.specs.mirrors.Acts.{Acts, Boots, down_part}
+use Rattle.tp_machine.specs.mirrors.Acts.{down_part}
+use Rattle.tp_machine.specs.Acts.{Acts, Boots}
 use Rattle.tp_machine.specs.Parts.{Part}
-use Rattle.tp_machine.specs.Machine.{acts_by, cut_record, goes_down, log_with}
+use Rattle.tp_machine.specs.Machine.{acts_by, goes_down}
+use Rattle.tp_actor_log.specs.Records.{cut_record, log_with}
 use Rattle.tp_machine.proofs.basics.Crashes.{cut_acts, told_of}
 
 part_with : {S : Type 0} → S → List Record → Part S

@@ -16,10 +16,12 @@ use Rattle.tp_types.proofs.EachLemmas.{set_here}
 use Rattle.tp_machine.specs.declared.actors.Actors.{Actors}
 use Rattle.tp_machine.specs.declared.part.Act.{Act}
 use Rattle.tp_machine.specs.Logs.{log_by}
-use Rattle.tp_machine.specs.mirrors.Acts.{Acts, Boots, HasEitherLogs, Moves, SameLogs, down_part, with_coordinator_down, with_down, with_server_down}
+use Rattle.tp_machine.specs.mirrors.Acts.{HasEitherLogs, Moves, SameLogs, down_part, with_coordinator_down, with_down, with_server_down}
+use Rattle.tp_machine.specs.Acts.{Acts, Boots}
 use Rattle.tp_machine.specs.Parts.{Part}
 use Rattle.tp_machine.proofs.basics.Parts.{put_alike, put_same}
-use Rattle.tp_machine.specs.Machine.{PartMove, boot_of_coordinator, boot_of_server, boots, coordinator_boots, coordinator_crashes, coordinator_fact, coordinator_forces, crash_of_coordinator, crash_of_server, crashes, cut_record, goes_down, log_with, server_boots, server_crashes, server_fact, server_forces}
+use Rattle.tp_machine.specs.Machine.{PartMove, boot_of_coordinator, boot_of_server, boots, coordinator_boots, coordinator_crashes, coordinator_fact, coordinator_forces, crash_of_coordinator, crash_of_server, crashes, goes_down, server_boots, server_crashes, server_fact, server_forces}
+use Rattle.tp_actor_log.specs.Records.{cut_record, log_with}
 
 -- ---- a crash in no receipt
 

@@ -1,5 +1,5 @@
 -- Records that a log takes, and how many actors there are.
-use Rattle.std.proofs.Common.{◌≡◌, ℕ, zero, suc, ◌+◌, List, [], ◌∷◌, ◌++◌, length, map, slice_get, slice_set, Option, None, Some, IfSome, Bool, true, false, if◌then◌else◌, refl, sym, ap, subst, ◌∙◌}
+use Rattle.std.proofs.Common.{◌≡◌, ℕ, zero, suc, List, [], ◌∷◌, ◌++◌, length, map, slice_get, slice_set, Option, None, Some, IfSome, Bool, true, false, if◌then◌else◌, refl, sym, ap, subst, ◌∙◌}
 use Rattle.std.specs.Option.{option_or}
 use Rattle.std.proofs.lemmas.Bool.{eqb-true}
 use Rattle.std.proofs.lemmas.List.{length-map}
@@ -13,13 +13,13 @@ use Rattle.tp_server.specs.Opened as server
 use Rattle.tp_server.specs.State.{Server}
 use Rattle.tp_types.specs.Each.{Each}
 use Rattle.tp_machine.specs.declared.actors.Actors.{Actors}
-use Rattle.tp_machine.specs.Fits.{FitLogs, FitsLog, HasShortLog, received}
-use Rattle.tp_machine.specs.declared.error.StepError.{StepError}
+use Rattle.tp_machine.specs.Fits.{FitLogs, HasShortLog, received}
+use Rattle.tp_actor_log.specs.Records.{FitsLog, log_with}
 use Rattle.tp_machine.specs.declared.error.StepError.TheVariants as error
 use Rattle.tp_coord.specs.Row.{coordinator_row}
 use Rattle.tp_server.specs.Row.{server_row}
 use Rattle.tp_machine.specs.Named.{IsStepOf}
-use Rattle.tp_machine.specs.Machine.{Machine, coordinator_forces, coordinator_takes_up, same_actor, sent_elsewhere, server_forces, server_takes_up, boot_of_coordinator, boot_of_server, boots, crash_of_coordinator, crash_of_server, crashes, delivery, log_with, machine_after, missing_mail, opened_actors, opened_part, receipt, refusal, State, submission_by, to_coordinator, to_server, is_part_down}
+use Rattle.tp_machine.specs.Machine.{Machine, coordinator_forces, coordinator_takes_up, same_actor, sent_elsewhere, server_forces, server_takes_up, boot_of_coordinator, boot_of_server, boots, crash_of_coordinator, crash_of_server, crashes, delivery, machine_after, missing_mail, opened_actors, opened_part, receipt, refusal, State, submission_by, to_coordinator, to_server, is_part_down}
 use Rattle.tp_machine.specs.Parts.{Part}
 use Rattle.tp_machine.specs.WorldView.{HasAllActors}
 use Rattle.tp_machine.specs.mirrors.Acts.{SameUp}

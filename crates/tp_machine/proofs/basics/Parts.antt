@@ -1,6 +1,6 @@
 -- Laws of actors that are up or down.
 use Rattle.std.proofs.Common.{◌≡◌, ℕ, zero, suc, ◌<◌, List, [], ◌∷◌, length, map, slice_get, slice_set, slice_index_or, Option, None, Some, Result, OnErr, IfOk, refl, sym, ap, subst, ◌∙◌, Bool, false, true, arith}
-use Rattle.std.proofs.lemmas.Result.{IfOk-weaker, on_err_weaker}
+use Rattle.std.proofs.lemmas.Result.{IfOk-weaker}
 use Rattle.std.specs.Prelude.{Err, Ok, unwrap_or}
 use Rattle.std.proofs.Math.Seq.{map-set_same}
 use Rattle.tp_coord.specs.State.{Coordinator}
@@ -9,7 +9,8 @@ use Rattle.tp_server.specs.State.{Server}
 use Rattle.tp_machine.specs.declared.actors.Actors.{Actors}
 use Rattle.tp_machine.specs.declared.part.Act.{Act}
 use Rattle.tp_machine.specs.Parts.{Part}
-use Rattle.tp_machine.specs.mirrors.Acts.{Acts, Moves, SameLogs}
+use Rattle.tp_machine.specs.mirrors.Acts.{Moves}
+use Rattle.tp_machine.specs.Acts.{Acts}
 use Rattle.tp_machine.specs.Logs.{log_by}
 use Rattle.tp_machine.specs.Machine.{PartMove, coordinator_move, coordinator_submits, coordinator_takes, is_part_down, server_move, server_takes, submission_by, to_coordinator, to_server}
 
@@ -23,7 +24,7 @@ pub same_logs : {S : Type 0} → (parts : List (Part S)) (at : ℕ) (old new : P
     → map log_by (slice_set parts at new) ≡ map log_by parts
 same_logs parts at old new here kept = map-set_same log_by parts at new old (kept ∙ ap log_by here)
 
-some_inj : {A : Type 0} (x y : A) → Some x ≡ Some y → x ≡ y
+pub some_inj : {A : Type 0} (x y : A) → Some x ≡ Some y → x ≡ y
 some_inj {A} x y e = ap (λ (o : Option A). unwrap_or o x) e
 
 -- ---- the member of a list that is changed in place

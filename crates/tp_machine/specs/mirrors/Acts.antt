@@ -1,4 +1,4 @@
--- What the code of an act promises: it did what the machine says.
+-- What the code of a step promises: it did what the machine says.
 use Rattle.std.specs.Prelude.{◌≡◌, ◌⊎◌, ℕ, Option, Some, None, map, slice_get, slice_set}
 use Rattle.tp_model.specs.Words.actor
 use Rattle.tp_model.specs.Words.log
@@ -9,13 +9,7 @@ use Rattle.tp_machine.specs.declared.actors.Actors.{Actors}
 use Rattle.tp_machine.specs.declared.part.Act.{Act}
 use Rattle.tp_machine.specs.Parts.{Part}
 use Rattle.tp_machine.specs.Logs.{log_by}
-use Rattle.tp_machine.specs.Machine.{Move, PartMove, is_part_down}
-
--- an actor acted so
-pub record Acts {S : Type 0} (move : PartMove S) (part : Part S) (act : Act) : Type 0 where
-  pub part_is : part ≡ move.part
-  pub happened_is : act.happened ≡ move.happened
-  pub letters_are : act.letters ≡ move.letters
+use Rattle.tp_machine.specs.Machine.{Move, is_part_down}
 
 -- how many decisions a record is
 abbrev pub decisions : Option Record → ℕ
@@ -64,10 +58,3 @@ with_down actors (actor.Server at) = with_server_down actors at (slice_get actor
 with_down actors (actor.Coordinator txn) =
     with_coordinator_down actors txn (slice_get actors.coordinators txn.0)
 with_down actors _ = actors
-
--- an actor made this move but for its state, which comes last
-pub record Boots {S : Type 0} (move : PartMove S) (part : Part S) (state : S) (act : Act)
-    : Type 0 where
-  pub part_is : record part { up = Some state } ≡ move.part
-  pub happened_is : act.happened ≡ move.happened
-  pub letters_are : act.letters ≡ move.letters

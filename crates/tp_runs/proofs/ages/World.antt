@@ -14,7 +14,8 @@ use Rattle.tp_types.proofs.EachLemmas.{at_made, at_set, each_append, each_as, ea
 use Rattle.tp_runs.proofs.basics.Logs.{prepared_grown}
 use Rattle.tp_runs.proofs.walks.Steps.{Cases, IsCoordinatorUp, IsServerUp, KeepsUp, WaitRightly, WasSent, machine_after_by}
 use Rattle.tp_recover.specs.Log.{prepared_in}
-use Rattle.tp_machine.specs.Machine.{Machine, Move, State, acts, acts_by, coordinator_fact, coordinator_move, log_with, machine_after, mails_of, opened_part, opening_state, refusal, server_fact, server_move, state_after, with_age}
+use Rattle.tp_machine.specs.Machine.{Machine, Move, State, acts, acts_by, coordinator_fact, coordinator_move, machine_after, mails_of, opened_part, opening_state, refusal, server_fact, server_move, state_after, with_age}
+use Rattle.tp_actor_log.specs.Records.{log_with}
 use Rattle.tp_machine.specs.Parts.{Part}
 use Rattle.tp_types.specs.Each.{Each, EachAt, EachPlaced}
 use Rattle.tp_runs.specs.Sound.{IsSound}

@@ -30,7 +30,8 @@ use Rattle.tp_scheme.specs.declared.moves.Point.TheVariants as point
 use Rattle.tp_scheme.specs.declared.moves.Point.{Point}
 use Rattle.tp_coord.proofs.Rows.{AfterQuery, AfterVotes, AllTrue, AllVoted, ByReading, ByReplies, ByVerdicts, ByVote, Gained, IsAck, IsInquiry, IsJudged, IsPassed, IsPlainYes, IsProbing, IsReply, ProofsRead, QueryRan, coordinator_by, submit_by, timer_by, with_gained}
 use Rattle.tp_recover.specs.Log.{decided_in, decision_in}
-use Rattle.tp_machine.specs.Machine.{log_with, with_age}
+use Rattle.tp_machine.specs.Machine.{with_age}
+use Rattle.tp_actor_log.specs.Records.{log_with}
 use Rattle.tp_types.specs.Each.{Each}
 use Rattle.tp_coord.specs.Opened.{servers_at}
 use Rattle.tp_coord.specs.Row.{aborts, asks, asks_in, asks_votes, checks, commit_round, commits, coordinator_row, decide_letters, is_begun, next_at, next_turn, number_at, point_of, probes, probing_at, own_query, repeats, request, round_letter, round_letters, sends_query, server_of, servers_upto, staple_of, submit_row, validation_round, vote_letter, vote_letters, voting, without}

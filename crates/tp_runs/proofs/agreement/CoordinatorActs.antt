@@ -20,7 +20,8 @@ use Rattle.tp_model.specs.Facts.{is_submission, outcome_of}
 use Rattle.tp_model.specs.Ids.{same_txn}
 use Rattle.tp_recover.specs.Log.{decided_in, decision_in, settled_in}
 use Rattle.tp_machine.specs.Logs.{decided_at, decided_by, prepared_by}
-use Rattle.tp_machine.specs.Machine.{State, acts, coordinator_fact, coordinator_move, log_with}
+use Rattle.tp_machine.specs.Machine.{State, acts, coordinator_fact, coordinator_move}
+use Rattle.tp_actor_log.specs.Records.{log_with}
 use Rattle.tp_types.specs.Each.{Each}
 use Rattle.tp_coord.specs.Opened.{servers_at}
 use Rattle.tp_coord.specs.Row.{is_begun}

@@ -25,7 +25,8 @@ use Rattle.tp_server.specs.Booted.{boot_row, booted, inquiry, kept_store, restor
 use Rattle.tp_server.specs.Row.{server_row}
 use Rattle.tp_server.specs.State.{Server}
 use Rattle.tp_machine.specs.Machine.{goes_down, server_boots}
-use Rattle.tp_machine.specs.Machine.{State, acts_by, coordinator_fact, coordinator_move, log_with, server_fact, server_move, state_after}
+use Rattle.tp_machine.specs.Machine.{State, acts_by, coordinator_fact, coordinator_move, server_fact, server_move, state_after}
+use Rattle.tp_actor_log.specs.Records.{log_with}
 use Rattle.tp_machine.specs.Named.{IsAdmin, IsServer}
 use Rattle.tp_machine.specs.Parts.{Part}
 use Rattle.tp_runs.proofs.agreement.Coordinator.{IsFirst, all_but_all, orders_lawful, servers_at_have_items}

@@ -15,7 +15,7 @@ use Rattle.tp_runs.proofs.basics.Versions.{set_keeps}
 use Rattle.tp_server.proofs.Rows.{AreRightWaits, refusing, resuming, server_by, with_learnt}
 use Rattle.tp_round.specs.Judge.{version_number}
 use Rattle.tp_recover.specs.Log.{known_in}
-use Rattle.tp_machine.specs.Machine.{log_with}
+use Rattle.tp_actor_log.specs.Records.{log_with}
 use Rattle.tp_runs.specs.Sound.{AreVersions, AreVersionsOf}
 use Rattle.tp_machine.specs.Named.{IsAdmin}
 use Rattle.tp_server.specs.Opened.{opening}

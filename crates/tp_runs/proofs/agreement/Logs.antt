@@ -14,7 +14,7 @@ use Rattle.tp_model.specs.Facts.{outcome_of}
 use Rattle.tp_model.specs.Ids.{same_txn}
 use Rattle.tp_recover.specs.Log.{has_voted, preparation_in, prepared_in, settled_in, settlement_in, voted_in, while_unsettled}
 use Rattle.tp_machine.specs.Logs.{decided_at, has_voted_at, prepared_at, settled_at}
-use Rattle.tp_machine.specs.Machine.{log_with}
+use Rattle.tp_actor_log.specs.Records.{log_with}
 use Rattle.tp_coord.specs.Row.{is_begun}
 use Rattle.tp_machine.specs.declared.actors.Actors.{Actors}
 use Rattle.tp_coord.specs.State.{Coordinator}

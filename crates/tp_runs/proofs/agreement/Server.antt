@@ -28,7 +28,7 @@ use Rattle.tp_server.proofs.Tables.{written_over}
 use Rattle.tp_runs.proofs.basics.Folds.{set_elsewhere}
 use Rattle.tp_server.proofs.Rows.{AreRightWaits, IsAsking, IsFirstHere, IsFirstVote, IsFurther, IsLaterVote, IsLostVote, IsResumed, resuming, server_by, unwaiting}
 use Rattle.tp_recover.specs.Log.{prepared_in, settled_in, voted_in, while_unsettled}
-use Rattle.tp_machine.specs.Machine.{log_with}
+use Rattle.tp_actor_log.specs.Records.{log_with}
 use Rattle.tp_model.specs.Deeds.{deed_of}
 use Rattle.tp_types.specs.Each.{Each, EachPlaced}
 use Rattle.tp_server.specs.declared.server.Ballot.{Ballot}

@@ -21,7 +21,8 @@ use Rattle.tp_model.specs.Facts.{is_decided_as, is_submission, outcome_of, same_
 use Rattle.tp_model.specs.Ids.{same_server, same_txn}
 use Rattle.tp_recover.specs.Log.{decided_in, has_voted, preparation_in, prepared_in, settled_in, settlement_in}
 use Rattle.tp_machine.specs.Logs.{decided_at, decided_by, prepared_by, settled_at, settled_by, voted_by}
-use Rattle.tp_machine.specs.Machine.{State, acts, log_with, server_fact, server_move}
+use Rattle.tp_machine.specs.Machine.{State, acts, server_fact, server_move}
+use Rattle.tp_actor_log.specs.Records.{log_with}
 use Rattle.tp_types.specs.Each.{Each}
 use Rattle.tp_machine.specs.Named.{IsServer}
 use Rattle.tp_coord.specs.Opened.{servers_at}

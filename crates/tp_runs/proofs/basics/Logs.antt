@@ -10,7 +10,7 @@ use Rattle.tp_model.specs.Words.{AdminId, Prepared, Record, Settled, TxnId, What
 use Rattle.tp_model.specs.Words.log
 use Rattle.tp_recover.specs.Log.{decided_in, decision_in, has_voted, is_prepared_or_settled, known_in, preparation_in, prepared_in, settled_in, settlement_in, told_in, voted_in, while_unsettled}
 use Rattle.tp_recover.proofs.LogLemmas.{first_first, first_none, known_push, settled_push, voted_push}
-use Rattle.tp_machine.specs.Machine.{log_with}
+use Rattle.tp_actor_log.specs.Records.{log_with}
 use Rattle.tp_runs.proofs.basics.Ids.{same_txn_is}
 
 -- ---- the first of two

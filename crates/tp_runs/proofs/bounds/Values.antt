@@ -7,7 +7,7 @@ use Rattle.tp_model.specs.Words.{Outcome, Prepared, Record, Scenario, Settled, T
 use Rattle.tp_runs.proofs.deeds.Ranges.{AreTested, stored_in_range}
 use Rattle.tp_runs.proofs.serial_data.OnLog.{values_after, values_grown}
 use Rattle.tp_recover.specs.Log.{ended_first, prepared_in, settled_in, values_in}
-use Rattle.tp_machine.specs.Machine.{log_with}
+use Rattle.tp_actor_log.specs.Records.{log_with}
 
 -- what is prepared on a log was tested against the ranges of items
 abbrev pub IsTestedLog : Scenario → List Record → Type 0

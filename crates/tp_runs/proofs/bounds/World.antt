@@ -35,7 +35,8 @@ use Rattle.tp_runs.proofs.serial_data.Receiving.{record_ends}
 use Rattle.tp_runs.proofs.serial_data.World.{Serial, up_on_log}
 use Rattle.tp_runs.proofs.walks.Steps.{Cases, IsCoordinatorUp, IsServerUp, KeepsUp, SaysIdle, WaitRightly, WasSent, machine_after_by}
 use Rattle.tp_runs.specs.Bounded.{AreBounded, IsBoundedCoordinator, IsBoundedEntry, IsBoundedFact, IsBoundedMail, IsBoundedRecord, IsBoundedServer, IsBoundedServerPart, IsBoundedSettled, IsBoundedWhat, IsBoundedWrite}
-use Rattle.tp_machine.specs.Machine.{Machine, Move, State, acts, acts_by, coordinator_fact, coordinator_move, facts_of, idle_move, is_part_submitted, log_with, machine_after, mails_of, opened_part, opening_state, refusal, server_fact, server_move, state_after, with_age}
+use Rattle.tp_machine.specs.Machine.{Machine, Move, State, acts, acts_by, coordinator_fact, coordinator_move, facts_of, idle_move, is_part_submitted, machine_after, mails_of, opened_part, opening_state, refusal, server_fact, server_move, state_after, with_age}
+use Rattle.tp_actor_log.specs.Records.{log_with}
 use Rattle.tp_machine.specs.Parts.{Part}
 use Rattle.tp_types.specs.Each.{Each, EachAt}
 use Rattle.tp_runs.specs.Sound.{IsSound, IsSoundCoordinatorUp, IsSoundDeed}

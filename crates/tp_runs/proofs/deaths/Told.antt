@@ -14,7 +14,8 @@ use Rattle.tp_runs.proofs.agreement.World.{Agrees}
 use Rattle.tp_runs.proofs.basics.Facts.{any_submitted, said, submissions}
 use Rattle.tp_runs.proofs.walks.Steps.{Cases, KeepsUp, SaysIdle, machine_after_by}
 use Rattle.tp_coord.specs.Row.{submit_row}
-use Rattle.tp_machine.specs.Machine.{Machine, Move, State, acts_by, coordinator_fact, coordinator_move, facts_of, log_with, machine_after, refusal, state_after, with_age}
+use Rattle.tp_machine.specs.Machine.{Machine, Move, State, acts_by, coordinator_fact, coordinator_move, facts_of, machine_after, refusal, state_after, with_age}
+use Rattle.tp_actor_log.specs.Records.{log_with}
 use Rattle.tp_machine.specs.Named.{IsStepOf}
 
 abbrev pub Told : State → Type 0

@@ -20,7 +20,8 @@ use Rattle.tp_server.specs.Row.{server_row}
 use Rattle.tp_server.specs.State.{Server}
 use Rattle.tp_machine.specs.Machine.{goes_down, server_boots}
 use Rattle.tp_machine.specs.Logs.{epoch_at}
-use Rattle.tp_machine.specs.Machine.{State, acts_by, coordinator_fact, coordinator_move, log_with, server_fact, server_move, state_after}
+use Rattle.tp_machine.specs.Machine.{State, acts_by, coordinator_fact, coordinator_move, server_fact, server_move, state_after}
+use Rattle.tp_actor_log.specs.Records.{log_with}
 use Rattle.tp_machine.specs.Parts.{Part}
 use Rattle.tp_runs.proofs.basics.Booted.{booted_entries, inquiries_are, records_of_scenario}
 use Rattle.tp_runs.proofs.basics.Phases.{is_undecided}

@@ -17,7 +17,7 @@ use Rattle.tp_runs.proofs.epochs.Asked.{Asking, IsAsked, IsOwnNaming, LetterName
 use Rattle.tp_server.proofs.Rows.{AreRightWaits, IsAsking, IsFirstHere, IsFurther, IsResumed, resuming, server_by, unwaiting}
 use Rattle.tp_recover.proofs.LogLemmas.{boots_push}
 use Rattle.tp_recover.specs.Log.{epoch_in}
-use Rattle.tp_machine.specs.Machine.{log_with}
+use Rattle.tp_actor_log.specs.Records.{log_with}
 use Rattle.tp_model.specs.Deeds.{deed_of}
 use Rattle.tp_types.specs.Each.{Each, EachPlaced}
 use Rattle.tp_server.specs.declared.server.Entry.{Entry}

@@ -28,7 +28,8 @@ use Rattle.tp_server.proofs.Rows.{AreRightWaits}
 use Rattle.tp_runs.proofs.walks.Steps.{Cases, IsCoordinatorUp, IsServerUp, KeepsUp, WaitRightly, WasSent, machine_after_by}
 use Rattle.tp_recover.specs.Log.{epoch_in, preparation_in, prepared_in}
 use Rattle.tp_machine.specs.Logs.{epoch_at, epoch_by, prepared_by}
-use Rattle.tp_machine.specs.Machine.{Machine, Move, State, acts, acts_by, coordinator_fact, coordinator_move, is_part_submitted, log_with, machine_after, mails_of, opened_part, opening_state, refusal, server_fact, server_move, state_after, with_age}
+use Rattle.tp_machine.specs.Machine.{Machine, Move, State, acts, acts_by, coordinator_fact, coordinator_move, is_part_submitted, machine_after, mails_of, opened_part, opening_state, refusal, server_fact, server_move, state_after, with_age}
+use Rattle.tp_actor_log.specs.Records.{log_with}
 use Rattle.tp_machine.specs.Parts.{Part}
 use Rattle.tp_types.specs.Each.{Each, EachAt}
 use Rattle.tp_runs.specs.Sound.{IsSound, IsSoundLetter, IsSoundMail, IsSoundServerUp}

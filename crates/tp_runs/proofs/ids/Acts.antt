@@ -20,7 +20,8 @@ use Rattle.tp_runs.proofs.ids.Coordinator.{IsSoundCoordinatorEffect, coordinator
 use Rattle.tp_runs.proofs.ids.Server.{IsSoundServerEffect, server_row_sound, version_of, versions_set}
 use Rattle.tp_runs.proofs.ids.Valid.{IsValid}
 use Rattle.tp_server.proofs.Rows.{AreRightWaits}
-use Rattle.tp_machine.specs.Machine.{PartMove, acts, acts_by, coordinator_fact, log_with, opened_part, server_fact, with_age}
+use Rattle.tp_machine.specs.Machine.{PartMove, acts, acts_by, coordinator_fact, opened_part, server_fact, with_age}
+use Rattle.tp_actor_log.specs.Records.{log_with}
 use Rattle.tp_machine.specs.Parts.{Part}
 use Rattle.tp_runs.specs.Sound.{AreCreds, AreVersions, IsSettledOf, IsSoundAuthority, IsSoundBody, IsSoundCoordinatorPart, IsSoundCoordinatorRecord, IsSoundCoordinatorUp, IsSoundDecision, IsSoundEntry, IsSoundLetter, IsSoundMaster, IsSoundRefusal, IsSoundServerPart, IsSoundServerRecord, IsSoundServerUp, IsSoundWhat, IsVersion, IsVersionOf, IsWriteOf}
 use Rattle.tp_types.specs.Each.{Each}

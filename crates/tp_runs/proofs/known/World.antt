@@ -44,7 +44,8 @@ use Rattle.tp_runs.proofs.trust.World.{Trusts}
 use Rattle.tp_runs.proofs.walks.Steps.{Cases, IsCoordinatorUp, IsServerUp, KeepsUp, WaitRightly, WasSent, machine_after_by}
 use Rattle.tp_recover.specs.Log.{decided_in}
 use Rattle.tp_machine.specs.Logs.{decided_at, decided_by, epoch_at}
-use Rattle.tp_machine.specs.Machine.{Machine, Move, State, acts, acts_by, coordinator_fact, coordinator_move, idle_coordinators, is_part_submitted, log_with, machine_after, mails_of, opened_part, opened_servers, opening_state, refusal, server_fact, server_move, state_after, with_age}
+use Rattle.tp_machine.specs.Machine.{Machine, Move, State, acts, acts_by, coordinator_fact, coordinator_move, idle_coordinators, is_part_submitted, machine_after, mails_of, opened_part, opened_servers, opening_state, refusal, server_fact, server_move, state_after, with_age}
+use Rattle.tp_actor_log.specs.Records.{log_with}
 use Rattle.tp_machine.specs.Parts.{Part}
 use Rattle.tp_types.specs.Effect.{Effect}
 use Rattle.tp_types.specs.Each.{Each, EachAt}

@@ -18,7 +18,8 @@ use Rattle.tp_runs.proofs.locked.Servers.{AskerPlaced, server_row_locked}
 use Rattle.tp_runs.proofs.basics.Found.{of_some}
 use Rattle.tp_runs.proofs.known.World.{HasPlaces, Pairs}
 use Rattle.tp_runs.proofs.walks.Steps.{Cases, IsServerUp, KeepsUp, WaitRightly, WasSent, machine_after_by}
-use Rattle.tp_machine.specs.Machine.{Machine, State, acts, acts_by, log_with, machine_after, opened_part, opening_state, refusal, server_fact, server_move}
+use Rattle.tp_machine.specs.Machine.{Machine, State, acts, acts_by, machine_after, opened_part, opening_state, refusal, server_fact, server_move}
+use Rattle.tp_actor_log.specs.Records.{log_with}
 use Rattle.tp_machine.specs.Parts.{Part}
 use Rattle.tp_types.specs.Each.{EachAt}
 use Rattle.tp_runs.specs.Sound.{IsSound, IsSoundBody, IsSoundQuery}

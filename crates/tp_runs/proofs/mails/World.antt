@@ -18,7 +18,8 @@ use Rattle.tp_machine.proofs.basics.Machine.{steps_next}
 use Rattle.tp_types.proofs.EachLemmas.{at_made, at_set, by_cond}
 use Rattle.tp_runs.proofs.mails.Actors.{AwaitsFew, coordinator_row_sends, repeats_sends, server_row_sends, submit_row_sends, waits_in}
 use Rattle.tp_runs.proofs.walks.Steps.{Cases, IsCoordinatorUp, IsServerUp, KeepsUp, WaitRightly, machine_after_by}
-use Rattle.tp_machine.specs.Machine.{Machine, Move, State, acts, acts_by, after_step, after_steps, coordinator_fact, coordinator_move, log_with, machine_after, mails_of, opened_part, opening_state, refusal, server_fact, server_move, state_after, with_age}
+use Rattle.tp_machine.specs.Machine.{Machine, Move, State, acts, acts_by, after_step, after_steps, coordinator_fact, coordinator_move, machine_after, mails_of, opened_part, opening_state, refusal, server_fact, server_move, state_after, with_age}
+use Rattle.tp_actor_log.specs.Records.{log_with}
 use Rattle.tp_machine.specs.Parts.{Part}
 use Rattle.tp_types.specs.Each.{EachAt}
 use Rattle.tp_runs.specs.Laws.{mails_most}

@@ -6,7 +6,8 @@ use Rattle.tp_model.specs.Words.log
 use Rattle.tp_model.specs.Words.what
 use Rattle.tp_model.specs.Words.{Record, Scenario, ServerId, What}
 use Rattle.tp_coord.specs.Booted as coord_boot
-use Rattle.tp_machine.specs.Machine.{State, coordinator_fact, log_with, server_fact, state_after}
+use Rattle.tp_machine.specs.Machine.{State, coordinator_fact, server_fact, state_after}
+use Rattle.tp_actor_log.specs.Records.{log_with}
 use Rattle.tp_runs.proofs.basics.Facts.{ArePast}
 use Rattle.tp_runs.proofs.basics.Logs.{gained}
 use Rattle.tp_runs.proofs.outside.Steps.{Says, own_coordinator_facts, own_of, own_server_facts, state_after_outside}

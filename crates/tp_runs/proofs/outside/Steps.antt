@@ -14,7 +14,8 @@ use Rattle.tp_model.specs.Outside.{IsOutside, is_from_outside, is_from_outside_w
 use Rattle.tp_model.specs.Versions.{is_publication, newest, opening_version}
 use Rattle.tp_coord.specs.State.{Coordinator}
 use Rattle.tp_machine.specs.Parts.{Part}
-use Rattle.tp_machine.specs.Machine.{Machine, State, Move, state_after, coordinator_fact, machine_after, idle_move, publishes, facts_of, server_fact, log_with, refusal}
+use Rattle.tp_machine.specs.Machine.{Machine, State, Move, state_after, coordinator_fact, machine_after, idle_move, publishes, facts_of, server_fact, refusal}
+use Rattle.tp_actor_log.specs.Records.{log_with}
 use Rattle.tp_coord.specs.Row.{coordinator_row, submit_row}
 use Rattle.tp_server.specs.Row.{server_row}
 use Rattle.tp_runs.proofs.agreement.CoordinatorActs.{coordinator_facts}

@@ -40,7 +40,7 @@ use Rattle.tp_runs.proofs.basics.Folds.{set_elsewhere}
 use Rattle.tp_runs.proofs.deeds.Runs.{deed_asked, deed_at}
 use Rattle.tp_server.proofs.Rows.{AreRightWaits, IsAsking, IsEvaluated, IsFirstHere, IsFurther, IsResumed, Stapled, Unstapled, resuming, server_by, unwaiting}
 use Rattle.tp_recover.specs.Log.{epoch_in, preparation_in, prepared_in, settled_in, settlement_in, voted_in, while_unsettled}
-use Rattle.tp_machine.specs.Machine.{log_with}
+use Rattle.tp_actor_log.specs.Records.{log_with}
 use Rattle.tp_model.specs.Deeds.{deed_of}
 use Rattle.tp_types.specs.Each.{Each}
 use Rattle.tp_runs.specs.Sound.{IsSoundBody, IsSoundDone, IsSoundQuery, IsSoundServer}

@@ -49,7 +49,8 @@ use Rattle.tp_server.proofs.Rows.{server_by}
 use Rattle.tp_runs.proofs.walks.Steps.{Cases, IsCoordinatorUp, IsServerUp, KeepsUp, SaysIdle, WaitRightly, WasSent, machine_after_by}
 use Rattle.tp_recover.specs.Log.{settled_in, settlement_in}
 use Rattle.tp_machine.specs.Logs.{decided_at, decided_by, settled_at, settled_by}
-use Rattle.tp_machine.specs.Machine.{Machine, State, acts, coordinator_fact, coordinator_move, facts_of, idle_move, log_with, machine_after, opened_part, opening_state, refusal, server_fact, server_move, with_age}
+use Rattle.tp_machine.specs.Machine.{Machine, State, acts, coordinator_fact, coordinator_move, facts_of, idle_move, machine_after, opened_part, opening_state, refusal, server_fact, server_move, with_age}
+use Rattle.tp_actor_log.specs.Records.{log_with}
 use Rattle.tp_machine.specs.Parts.{Part}
 use Rattle.tp_types.specs.Each.{Each}
 use Rattle.tp_runs.specs.Sound.{IsSound, IsSoundBody, IsSoundMail}

@@ -8,7 +8,8 @@ use Rattle.tp_model.specs.Facts.{before}
 use Rattle.tp_model.specs.Words.step
 use Rattle.tp_model.specs.Words.{Actor, Fact, Record, Step, TxnId, What}
 use Rattle.tp_recover.specs.Log.{boots_in, epoch_in}
-use Rattle.tp_machine.specs.Machine.{facts_of, log_with}
+use Rattle.tp_machine.specs.Machine.{facts_of}
+use Rattle.tp_actor_log.specs.Records.{log_with}
 use Rattle.tp_machine.specs.Parts.{Part}
 use Rattle.tp_runs.proofs.ages.World.{IsSubmission, found_still}
 use Rattle.tp_runs.proofs.agreement.Logs.{once}

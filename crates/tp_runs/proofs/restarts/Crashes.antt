@@ -16,7 +16,8 @@ use Rattle.tp_coord.specs.Booted as coord_boot
 use Rattle.tp_coord.specs.Opened.{idle}
 use Rattle.tp_coord.specs.Row.{coordinator_row, is_begun}
 use Rattle.tp_coord.specs.State.{Coordinator}
-use Rattle.tp_machine.specs.Machine.{State, acts_by, coordinator_fact, coordinator_move, facts_of, goes_down, log_with, server_boots, server_fact, server_move, state_after}
+use Rattle.tp_machine.specs.Machine.{State, acts_by, coordinator_fact, coordinator_move, facts_of, goes_down, server_boots, server_fact, server_move, state_after}
+use Rattle.tp_actor_log.specs.Records.{log_with}
 use Rattle.tp_machine.specs.Parts.{Part}
 use Rattle.tp_model.specs.ByAge.{by_txn}
 use Rattle.tp_recover.specs.Kept.{kept}

@@ -8,7 +8,8 @@ use Rattle.tp_model.specs.Causes.{crashed_within, is_coordinator_actor, is_serve
 use Rattle.tp_model.specs.Words.log
 use Rattle.tp_model.specs.Words.{Actor, Fact, Letter, Mail, Record, Scenario, ServerId, Settled, Step, TxnId, What}
 use Rattle.tp_recover.specs.Log.{settled_in, settlement_in}
-use Rattle.tp_machine.specs.Machine.{Move, State, acts, coordinator_fact, coordinator_move, facts_of, log_with, mails_of, server_fact, server_move, state_after}
+use Rattle.tp_machine.specs.Machine.{Move, State, acts, coordinator_fact, coordinator_move, facts_of, mails_of, server_fact, server_move, state_after}
+use Rattle.tp_actor_log.specs.Records.{log_with}
 use Rattle.tp_machine.specs.Parts.{Part}
 use Rattle.tp_machine.specs.declared.actors.Actors.{Actors}
 use Rattle.tp_types.proofs.EachLemmas.{at_set, each_append, each_as}

@@ -23,7 +23,7 @@ use Rattle.tp_runs.proofs.pairs.Pair.{numbers}
 use Rattle.tp_runs.proofs.serial_data.OnLog.{LogReads, values_after}
 use Rattle.tp_runs.proofs.serial_data.Rows.{deeds_in, values_length}
 use Rattle.tp_runs.proofs.serial_data.UpOnLog.{UpOnLog}
-use Rattle.tp_machine.specs.Machine.{log_with}
+use Rattle.tp_actor_log.specs.Records.{log_with}
 use Rattle.tp_server.specs.Booted.{booted, kept_store, restored, with_deed_kept, with_deeds_kept, with_prepared_kept, write_of}
 use Rattle.tp_server.specs.declared.server.Entry.{Entry}
 use Rattle.tp_store.specs.Contents.{Contents}

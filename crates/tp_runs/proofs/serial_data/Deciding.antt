@@ -19,7 +19,8 @@ use Rattle.tp_coord.specs.State.{Coordinator}
 use Rattle.tp_coord.specs.declared.coordinator.Phase.{Phase}
 use Rattle.tp_coord.specs.declared.coordinator.Phase.TheVariants as phase
 use Rattle.tp_machine.specs.Logs.{decided_at, prepared_at, prepared_by, settled_at, settled_by}
-use Rattle.tp_machine.specs.Machine.{State, acts, coordinator_fact, coordinator_move, log_with}
+use Rattle.tp_machine.specs.Machine.{State, acts, coordinator_fact, coordinator_move}
+use Rattle.tp_actor_log.specs.Records.{log_with}
 use Rattle.tp_machine.specs.Named.{IsTxn}
 use Rattle.tp_machine.specs.Parts.{Part}
 use Rattle.tp_recover.specs.Log.{decided_in, decision_in, prepared_in, values_in}

@@ -15,7 +15,8 @@ use Rattle.tp_model.specs.Commits.{are_lone, is_commit_at, is_commit_what, is_lo
 use Rattle.tp_coord.specs.Booted as coord_boot
 use Rattle.tp_coord.specs.State.{Coordinator}
 use Rattle.tp_machine.specs.Parts.{Part}
-use Rattle.tp_machine.specs.Machine.{Machine, State, Move, state_after, coordinator_fact, machine_after, facts_of, server_fact, log_with, refusal}
+use Rattle.tp_machine.specs.Machine.{Machine, State, Move, state_after, coordinator_fact, machine_after, facts_of, server_fact, refusal}
+use Rattle.tp_actor_log.specs.Records.{log_with}
 use Rattle.tp_coord.specs.Row.{coordinator_row, submit_row}
 use Rattle.tp_server.specs.Row.{server_row}
 use Rattle.tp_server.specs.State.{Server}

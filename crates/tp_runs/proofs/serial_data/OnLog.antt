@@ -13,7 +13,7 @@ use Rattle.tp_runs.proofs.agreement.Logs.{prepared_open}
 use Rattle.tp_runs.proofs.basics.Ids.{same_txn_is}
 use Rattle.tp_runs.proofs.basics.Logs.{appended, later_some, prepared_either, settled_with}
 use Rattle.tp_runs.proofs.deeds.Reads.{AreClear, ReadsFrom, clear_both, reads_clear}
-use Rattle.tp_machine.specs.Machine.{log_with}
+use Rattle.tp_actor_log.specs.Records.{log_with}
 
 -- what is prepared has read the values that the log leaves, and what two transactions have prepared is apart
 pub record LogReads (sc : Scenario) (kept : List Record) : Type 0 where

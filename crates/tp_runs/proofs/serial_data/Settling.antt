@@ -31,7 +31,8 @@ use Rattle.tp_runs.proofs.serial_data.Unsettled.{IsUnsettled, SameEnds, SettlesA
 use Rattle.tp_runs.proofs.serial_data.World.{AreShares, HoldsValues, MoveSerial, Serial, ServerPartSerial, ServersSerial, StoreStands, WhatSerial, overlaid_by, store_by}
 use Rattle.tp_recover.specs.Log.{ended_first, prepared_in, settled_in, settlement_in, values_in}
 use Rattle.tp_machine.specs.Logs.{decided_at, prepared_at, prepared_by, settled_at}
-use Rattle.tp_machine.specs.Machine.{State, acts, log_with, server_fact, server_move}
+use Rattle.tp_machine.specs.Machine.{State, acts, server_fact, server_move}
+use Rattle.tp_actor_log.specs.Records.{log_with}
 use Rattle.tp_machine.specs.Parts.{Part}
 use Rattle.tp_types.specs.Each.{Each}
 use Rattle.tp_coord.specs.State.{Coordinator}

@@ -18,7 +18,7 @@ use Rattle.tp_runs.proofs.deeds.Commits.{IsItemAt}
 use Rattle.tp_runs.proofs.deeds.Stores.{Adds, Drops, StoreFits, store_as}
 use Rattle.tp_recover.specs.Log.{decided_in, decision_in, settled_in, settlement_in}
 use Rattle.tp_machine.specs.Logs.{decided_at, decided_by, settled_at, settled_by}
-use Rattle.tp_machine.specs.Machine.{log_with}
+use Rattle.tp_actor_log.specs.Records.{log_with}
 use Rattle.tp_machine.specs.Parts.{Part}
 use Rattle.tp_coord.specs.State.{Coordinator}
 use Rattle.tp_machine.specs.declared.actors.Actors.{Actors}

@@ -14,7 +14,7 @@ use Rattle.tp_runs.proofs.locked.Apart.{entries_apart}
 use Rattle.tp_runs.proofs.locked.World.{IsLockedServer}
 use Rattle.tp_runs.proofs.serial_data.OnLog.{RecordReads, values_after, values_grown}
 use Rattle.tp_runs.proofs.serial_data.Rows.{RecordHere, ServerKeeps, ServerReads, deeds_in, values_with}
-use Rattle.tp_machine.specs.Machine.{log_with}
+use Rattle.tp_actor_log.specs.Records.{log_with}
 use Rattle.tp_server.specs.declared.server.Ballot.{Ballot}
 use Rattle.tp_server.specs.declared.server.Entry.{Entry}
 use Rattle.tp_server.specs.Row.{entry_at}

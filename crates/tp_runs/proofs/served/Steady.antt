@@ -27,7 +27,8 @@ use Rattle.tp_coord.specs.declared.coordinator.Phase.{Phase}
 use Rattle.tp_coord.specs.declared.coordinator.Phase.TheVariants as phase
 use Rattle.tp_coord.specs.declared.coordinator.Span.{Span}
 use Rattle.tp_coord.specs.declared.coordinator.Span.TheVariants as span
-use Rattle.tp_machine.specs.Machine.{Machine, State, log_with, machine_after, opened_part, opening_state, refusal, state_after, with_age}
+use Rattle.tp_machine.specs.Machine.{Machine, State, machine_after, opened_part, opening_state, refusal, state_after, with_age}
+use Rattle.tp_actor_log.specs.Records.{log_with}
 use Rattle.tp_machine.specs.Named.{IsServer, IsStepOf}
 use Rattle.tp_machine.specs.Parts.{Part}
 use Rattle.tp_server.proofs.Rows.{AreRightWaits, server_by}

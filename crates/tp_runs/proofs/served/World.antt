@@ -21,7 +21,8 @@ use Rattle.tp_coord.specs.declared.coordinator.Phase.{Phase}
 use Rattle.tp_coord.specs.declared.coordinator.Phase.TheVariants as phase
 use Rattle.tp_coord.specs.declared.coordinator.Span.TheVariants as span
 use Rattle.tp_machine.proofs.basics.Flags.{length_mails_of}
-use Rattle.tp_machine.specs.Machine.{Machine, Move, State, acts_by, coordinator_fact, coordinator_move, log_with, mails_of, server_fact, server_move, state_after, with_new, without_number}
+use Rattle.tp_machine.specs.Machine.{Machine, Move, State, acts_by, coordinator_fact, coordinator_move, mails_of, server_fact, server_move, state_after, with_new, without_number}
+use Rattle.tp_actor_log.specs.Records.{log_with}
 use Rattle.tp_machine.specs.Parts.{Part}
 use Rattle.tp_server.specs.Row as server
 use Rattle.tp_server.specs.Row.{server_row}

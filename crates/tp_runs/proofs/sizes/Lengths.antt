@@ -19,7 +19,8 @@ use Rattle.tp_record.specs.Spelling as spell
 use Rattle.tp_record.specs.Spelling.{content, list, long, option, short, value}
 use Rattle.tp_runs.proofs.basics.Uses.{creds_few}
 use Rattle.tp_runs.proofs.ids.Valid.{IsValid}
-use Rattle.tp_machine.specs.Fits.{FitLogs, FitsLog}
+use Rattle.tp_machine.specs.Fits.{FitLogs}
+use Rattle.tp_actor_log.specs.Records.{FitsLog}
 use Rattle.tp_runs.proofs.sizes.Counts.{IsSmallAtCoordinator, IsSmallAtServer, IsSmallCause, IsSmallCommit, IsSmallDecision, IsSmallInstance, IsSmallVote}
 use Rattle.tp_runs.proofs.sizes.World.{Sizes}
 use Rattle.tp_runs.specs.Sound.{AreVersionsOf, IsSound, IsSoundCommit, IsSoundCoordinatorRecord, IsSoundDecision, IsSoundInstance, IsSoundPrepared, IsSoundProof, IsSoundServerRecord, IsSoundVerdict}

@@ -27,7 +27,8 @@ use Rattle.tp_coord.proofs.Rows.{coordinator_by, submit_by}
 use Rattle.tp_coord.specs.Opened as coord_opened
 use Rattle.tp_coord.specs.Row.{coordinator_row, submit_row}
 use Rattle.tp_coord.specs.State.{Coordinator}
-use Rattle.tp_machine.specs.Machine.{Machine, State, log_with, machine_after, opened_part, opening_state, refusal, with_age}
+use Rattle.tp_machine.specs.Machine.{Machine, State, machine_after, opened_part, opening_state, refusal, with_age}
+use Rattle.tp_actor_log.specs.Records.{log_with}
 use Rattle.tp_machine.specs.Named.{IsStepOf, IsTxn}
 use Rattle.tp_machine.specs.Parts.{Part}
 use Rattle.tp_machine.specs.declared.actors.Actors.{Actors}

@@ -10,7 +10,8 @@ use Rattle.tp_model.specs.Versions.{newest}
 use Rattle.tp_model.specs.Words.{AdminId, AskRequest, Body, Fact, Letter, Record, Scenario, ServerId, TxnId, What}
 use Rattle.tp_model.specs.Words.body
 use Rattle.tp_model.specs.Words.log
-use Rattle.tp_machine.specs.Machine.{State, acts, coordinator_fact, coordinator_move, log_with, server_fact, server_move}
+use Rattle.tp_machine.specs.Machine.{State, acts, coordinator_fact, coordinator_move, server_fact, server_move}
+use Rattle.tp_actor_log.specs.Records.{log_with}
 use Rattle.tp_machine.specs.Parts.{Part}
 use Rattle.tp_types.specs.Each.{Each}
 use Rattle.tp_machine.specs.Named.{IsAdmin}

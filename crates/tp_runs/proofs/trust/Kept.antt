@@ -8,7 +8,7 @@ use Rattle.tp_model.specs.Words.{Body, DoneReply, Fact, Prepared, QueryRequest, 
 use Rattle.tp_model.specs.Words.body
 use Rattle.tp_model.specs.Words.log
 use Rattle.tp_model.specs.Words.vote
-use Rattle.tp_machine.specs.Machine.{log_with}
+use Rattle.tp_actor_log.specs.Records.{log_with}
 use Rattle.tp_machine.specs.Parts.{Part}
 use Rattle.tp_recover.specs.Log.{preparation_in, prepared_in}
 use Rattle.tp_server.specs.State.{Server}

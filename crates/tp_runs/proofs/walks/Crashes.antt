@@ -13,7 +13,9 @@ use Rattle.tp_server.specs.Row.{server_row}
 use Rattle.tp_server.specs.State.{Server}
 use Rattle.tp_machine.specs.declared.error.StepError.TheVariants as error
 use Rattle.tp_machine.specs.Machine.{boot_of_coordinator, boot_of_server, boots, coordinator_boots, coordinator_forces, coordinator_left, crash_of_coordinator, crash_of_server, crash_refusal, crashes}
-use Rattle.tp_machine.specs.Machine.{cut_elsewhere, cut_record, down_now, goes_down, is_down, is_kept, is_part_down, is_part_submitted, is_submitted, machine_after, missing_cut, refusal, same_actor}
+use Rattle.tp_machine.specs.Machine.{cut_elsewhere, down_now, goes_down, is_down, is_part_down, is_part_submitted, is_submitted, machine_after, missing_cut, refusal, same_actor}
+use Rattle.tp_actor_log.specs.Records.{cut_record}
+use Rattle.tp_log.specs.Logs.{is_kept}
 use Rattle.tp_machine.specs.Machine.{Machine, Move, State, coordinator_fact, coordinator_move, sent_elsewhere, server_boots, server_fact, server_forces, server_left, server_move, state_after, unsubmitted_actor, up_now}
 use Rattle.tp_machine.specs.Named.{IsCrasher, IsServer, IsStepOf, IsTxn}
 use Rattle.tp_machine.specs.Parts.{Part}
@@ -47,7 +49,7 @@ left_if w who forces false forced left = Nothing
 
 left_by : (w : State) (who : Actor) (forces : Mail → Option Record) (cut : Cut) (forced : Option Record) → LeftOf w who forces forced → LeftOf w who forces (cut_record cut forced)
 left_by w who forces cut None left = Nothing
-left_by w who forces cut (Some forced) left = left_if w who forces (is_kept cut) forced left
+left_by w who forces cut (Some forced) left = left_if w who forces (is_kept cut.calls cut.fill) forced left
 
 -- a cut leaves nothing of the record, or the whole of it
 pub cut_left : (w : State) (who : Actor) (forces : Mail → Option Record) (n : ℕ) (mail : Mail) (cut : Cut) → WasSent w n mail who → LeftOf w who forces (cut_record cut (forces mail))

@@ -17,7 +17,8 @@ use Rattle.tp_coord.specs.Booted as coord_boot
 use Rattle.tp_coord.specs.Opened.{idle, servers_at}
 use Rattle.tp_coord.specs.Row.{coordinator_row, submit_row}
 use Rattle.tp_coord.specs.State.{Coordinator}
-use Rattle.tp_machine.specs.Machine.{Machine, State, log_with, machine_after, opened_part, opening_state, refusal, state_after, with_age}
+use Rattle.tp_machine.specs.Machine.{Machine, State, machine_after, opened_part, opening_state, refusal, state_after, with_age}
+use Rattle.tp_actor_log.specs.Records.{log_with}
 use Rattle.tp_machine.specs.Named.{IsStepOf}
 use Rattle.tp_machine.specs.Parts.{Part}
 use Rattle.tp_runs.proofs.agreement.Steps.{coordinator_agrees}

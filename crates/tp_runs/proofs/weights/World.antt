@@ -25,7 +25,8 @@ use Rattle.tp_coord.specs.declared.coordinator.Phase.{Phase}
 use Rattle.tp_coord.specs.declared.coordinator.Phase.TheVariants as phase
 use Rattle.tp_machine.proofs.basics.Flags.{length_mails_of}
 use Rattle.tp_machine.proofs.basics.Machine.{steps_next}
-use Rattle.tp_machine.specs.Machine.{Machine, Move, State, acts_by, coordinator_fact, coordinator_move, goes_down, is_part_submitted, log_with, machine_after, mails_of, refusal, server_boots, server_fact, server_move, state_after, with_age}
+use Rattle.tp_machine.specs.Machine.{Machine, Move, State, acts_by, coordinator_fact, coordinator_move, goes_down, is_part_submitted, machine_after, mails_of, refusal, server_boots, server_fact, server_move, state_after, with_age}
+use Rattle.tp_actor_log.specs.Records.{log_with}
 use Rattle.tp_machine.specs.Named.{IsStepOf}
 use Rattle.tp_machine.specs.Parts.{Part}
 use Rattle.tp_offices.specs.Authority as office

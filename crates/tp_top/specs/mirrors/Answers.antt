@@ -13,7 +13,6 @@ use Rattle.tp_top.specs.declared.ended.RunEnd.TheVariants as end
 use Rattle.tp_top.specs.declared.listed.StepRefusal.{StepRefusal}
 use Rattle.tp_auto.specs.Auto.{is_quiet, world_after}
 use Rattle.tp_bulk.specs.Bulk.{scenario_of}
-use Rattle.tp_trace.specs.Blocks.{trace_text}
 use Rattle.tp_top.specs.Listed.{refused_from}
 use Rattle.tp_top.specs.Refusals.{refusal_line, step_line}
 use Rattle.tp_top.specs.Input.{Reads, TakesAll}
@@ -26,6 +25,12 @@ pub record Follows (old new : WorldView) (steps : List Step) (refused : Option S
     : Type 0 where
   pub first : refused ≡ refused_from old.scenario old.machine 0 steps
   pub done : refused ≡ None → new ≡ world_after old steps
+
+-- where a step is refused just the steps before it were done
+abbrev pub StopsBefore : WorldView → WorldView → List Step → Option StepRefusal → Type 0
+StopsBefore old new steps None = Unit {0}
+StopsBefore old new steps (Some refused) =
+    new.machine.state.steps ≡ old.machine.state.steps ++ take refused.at steps
 
 -- a world that is not given up, after all listed steps of its scenario, of which none is refused
 pub record IsListed (world : WorldView) : Type 0 where
@@ -40,10 +45,15 @@ pub record IsAtRest (sc : Scenario) (world : WorldView) : Type 0 where
   pub lawful : first_refused sc ≡ None
   pub quiet : is_quiet sc (final sc) ≡ true
 
+-- a world that stands before the first listed step that is refused
+pub record IsStoppedAt (sc : Scenario) (world : WorldView) (refused : StepRefusal) : Type 0 where
+  pub first : first_refused sc ≡ Some refused
+  pub before : world.machine.state.steps ≡ take refused.at sc.steps
+
 -- how the run of a scenario ended in this world
 abbrev pub HasRun : Scenario → WorldView → RunEnd → Type 0
 HasRun sc world end.AtRest = IsAtRest sc world
-HasRun sc world (end.Stopped refused) = first_refused sc ≡ Some refused
+HasRun sc world (end.Stopped refused) = IsStoppedAt sc world refused
 
 -- ---- what comes of a scenario that was read
 
@@ -90,18 +100,6 @@ IsReported sc answer = IsTold report_of nothing_before sc answer
 -- by its trace
 abbrev pub IsTraced : Scenario → Answer → Type 0
 IsTraced sc answer = IsTold whole_trace trace_before sc answer
-
--- ---- a trace
-
--- the text is the trace of the steps that the world has done
-abbrev pub Tells : WorldView → List ℕ → Type 0
-Tells world text = text ≡ trace_text world.scenario world.machine.state.steps
-
--- where a step is refused just the steps before it were done
-abbrev pub StopsBefore : WorldView → WorldView → List Step → Option StepRefusal → Type 0
-StopsBefore old new steps None = Unit {0}
-StopsBefore old new steps (Some refused) =
-    new.machine.state.steps ≡ old.machine.state.steps ++ take refused.at steps
 
 -- what comes of the large scenario
 abbrev pub IsCounted : ℕ → Answer → Type 0

@@ -1,20 +1,16 @@
 -- What is noted before a step, and the lines that the code finds by it afterwards.
-use Rattle.std.specs.Prelude.{◌≡◌, ℕ, ◌-◌, List, [], ◌∷◌, ◌++◌, length, map, take, drop, Bool, true, false, Option, Some, None, is_some, codes, decimal, if◌then◌else◌}
-use Rattle.tp_log.specs.Images.{blocks}
-use Rattle.tp_machine.specs.Logs.{records_of}
+use Rattle.std.specs.Prelude.{◌≡◌, ℕ, ℤ, List, [], ◌∷◌, ◌++◌, length, map, drop, Bool, true, false, Option, Some, None, is_some, codes, decimal, option_and_then}
 use Rattle.tp_machine.specs.Machine.{State}
-use Rattle.tp_machine.specs.Views.{StandsAt, coordinator_at, server_at}
-use Rattle.tp_machine.specs.declared.actors.Actors.{Actors}
-use Rattle.tp_model.specs.Words.{Actor, Record, Scenario, ServerId, Step}
+use Rattle.tp_machine.specs.Views.{coordinator_at, server_at}
+use Rattle.tp_model.specs.Words.{Actor, ItemId, Mail, Record, Scenario, ServerId, Step, TxnId}
 use Rattle.tp_model.specs.Words.actor
-use Rattle.tp_model.specs.Words.step
 use Rattle.tp_report.specs.ReportText.{server_name}
 use Rattle.tp_report.specs.StepText.{step_text}
 use Rattle.tp_server.specs.State.{Server}
-use Rattle.tp_trace.specs.Blocks.{coordinator_now, fate_lines, log_lines, mail_at, step_kind}
+use Rattle.tp_trace.specs.Blocks.{coordinator_now, durable_lines, ended_by, fate_lines, is_torn, leaves_commit, mail_at, step_kind}
 use Rattle.tp_trace.specs.Lines.{Line, line_of, mail_line}
 use Rattle.tp_trace.specs.Phases.{awaits_text}
-use Rattle.tp_trace.specs.Seen.{items_of, left_lines, nothing_seen, seen_lines, seen_of, seen_up}
+use Rattle.tp_trace.specs.Seen.{items_of, nothing_seen, seen_lines, seen_of, seen_up, values_from, values_to}
 use Rattle.tp_trace.specs.Told.{all_told}
 use Rattle.tp_trace.specs.declared.blocks.Noted.{Noted}
 use Rattle.tp_trace.specs.declared.lines.Kind.TheVariants as kind
@@ -22,25 +18,25 @@ use Rattle.tp_trace.specs.declared.seen.Seen.{Seen}
 
 -- ---- before the step
 
--- where the log of the actor ends, in bytes
-abbrev pub end_of : State → Option Actor → ℕ
-end_of w None = 0
-end_of w (Some who) = length (blocks (records_of w.actors who))
-
-abbrev pub is_crash : Step → Bool
-is_crash (step.Crash who cut) = true
-is_crash _ = false
-
--- what is seen of the actor, if that is a server; nothing where it crashes, since it is down then
-abbrev pub seen_before : Scenario → State → Bool → Option Actor → Seen
-seen_before sc w crash (Some (actor.Server at)) =
-    if crash then nothing_seen else seen_up (items_of sc at) (server_at w.actors at)
-seen_before sc w crash _ = nothing_seen
+-- what is seen of the actor, if that is a server
+abbrev pub seen_before : Scenario → State → Option Actor → Seen
+seen_before sc w (Some (actor.Server at)) = seen_up (items_of sc at) (server_at w.actors at)
+seen_before sc w _ = nothing_seen
 
 -- the actor is a server that is up
 abbrev pub was_up : State → Option Actor → Bool
 was_up w (Some (actor.Server at)) = is_some (server_at w.actors at)
 was_up w _ = false
+
+-- the values of a server's items to the transaction whose coordinator sent it a mail
+abbrev pub values_if : List ItemId → Option Server → Option TxnId → Option (List ℤ)
+values_if items (Some s) (Some txn) = Some (values_to items s txn)
+values_if items _ _ = None
+
+abbrev pub left_before : Scenario → State → Option Mail → Option Actor → Option (List ℤ)
+left_before sc w mail (Some (actor.Server at)) =
+    values_if (items_of sc at) (server_at w.actors at) (option_and_then ended_by mail)
+left_before sc w mail _ = None
 
 abbrev pub awaited_before : Scenario → State → Option Actor → List ℕ
 awaited_before sc w (Some (actor.Coordinator txn)) = awaits_text sc (coordinator_at w.actors txn)
@@ -52,8 +48,9 @@ noted_of sc w taken who = record {
   facts = length w.facts;
   mails = length w.mails;
   actor = who;
-  log_end = end_of w who;
-  seen = seen_before sc w (is_crash taken) who;
+  torn = is_torn taken;
+  seen = seen_before sc w who;
+  left = left_before sc w (mail_at w taken) who;
   was_up = was_up w who;
   awaited = awaited_before sc w who;
 }
@@ -66,52 +63,23 @@ begun sc listed w taken =
 
 -- ---- after it
 
--- the log of the actor has what it had, and more
-abbrev pub HasMore : Actors → Option Actor → ℕ → Type 0
-HasMore actors None log_end = Unit {0}
-HasMore actors (Some who) log_end =
-    (before : List Record) × (more : List Record)
-    × StandsAt (records_of actors who) log_end before more
+-- the values that a crash leaves, where its log has gained a commit
+abbrev pub left_from : Scenario → ℕ → ServerId → Bool → List ℤ → Option (List ℤ) → List Line
+left_from sc place at true before (Some after) = values_from sc place at 0 before after (items_of sc at)
+left_from sc place at _ before _ = []
 
--- these are the records that it has more
-abbrev pub AreMore : Actors → Option Actor → ℕ → List Record → Type 0
-AreMore actors None log_end records = records ≡ []
-AreMore actors (Some who) log_end records =
-    (before more : List Record) → StandsAt (records_of actors who) log_end before more
-    → records ≡ more
+abbrev pub changed_from : Scenario → Noted → ServerId → Bool → Option Record → Option Server
+    → List Line
+changed_from sc noted at up forced (Some s) =
+    seen_lines sc noted.place at noted.seen (seen_of (items_of sc at) s)
+changed_from sc noted at true forced None =
+    left_from sc noted.place at (leaves_commit noted.torn forced) noted.seen.values noted.left
+changed_from sc noted at false forced None = []
 
--- this is what it has more, in one way or another
-abbrev pub IsMore : Actors → Option Actor → ℕ → List Record → Type 0
-IsMore actors None log_end more = more ≡ []
-IsMore actors (Some who) log_end more =
-    (before : List Record) × StandsAt (records_of actors who) log_end before more
-
-abbrev pub durable_from : Scenario → ℕ → Option Actor → List Record → Option Record → List Line
-durable_from sc place None more forced = []
-durable_from sc place (Some who) more forced = log_lines sc place who more forced
-
--- the log without the last records, so many
-abbrev pub log_before : List Record → List Record → List Record
-log_before more records = take (length records - length more) records
-
--- a log that gained nothing leaves the values that it left
-abbrev pub left_from : Scenario → ℕ → ServerId → List Record → List Record → List Line
-left_from sc place at [] records = []
-left_from sc place at (first ∷ others) records =
-    left_lines sc place at (log_before (first ∷ others) records) records
-
-abbrev pub changed_from : Scenario → ℕ → ServerId → Bool → Seen → Option Server → List Record
-    → List Record → List Line
-changed_from sc place at up seen (Some s) more records =
-    seen_lines sc place at seen (seen_of (items_of sc at) s)
-changed_from sc place at true seen None more records = left_from sc place at more records
-changed_from sc place at false seen None more records = []
-
-abbrev pub state_from : Scenario → Noted → Option Actor → List Record → State → List Line
-state_from sc noted (Some (actor.Server at)) more next =
-    changed_from sc noted.place at noted.was_up noted.seen (server_at next.actors at) more
-    (records_of next.actors (actor.Server at))
-state_from sc noted _ more next = []
+abbrev pub state_from : Scenario → Noted → Option Actor → Option Record → State → List Line
+state_from sc noted (Some (actor.Server at)) forced next =
+    changed_from sc noted at noted.was_up forced (server_at next.actors at)
+state_from sc noted _ forced next = []
 
 abbrev pub server_from : Scenario → ℕ → ServerId → Bool → Option Server → List Line
 server_from sc place at true None =
@@ -128,10 +96,10 @@ now_from sc noted (Some (actor.Coordinator txn)) next =
     (awaits_text sc (coordinator_at next.actors txn))
 now_from sc noted _ next = []
 
-abbrev pub lines_from : Scenario → Noted → List Record → Option Record → State → List Line
-lines_from sc noted more forced next =
-    durable_from sc noted.place noted.actor more forced
+abbrev pub lines_from : Scenario → Noted → Option Record → State → List Line
+lines_from sc noted forced next =
+    durable_lines sc noted.place noted.torn noted.actor forced
     ++ all_told sc next.facts (drop noted.facts next.facts)
-    ++ state_from sc noted noted.actor more next
+    ++ state_from sc noted noted.actor forced next
     ++ map (mail_line sc noted.place kind.Sent) (drop noted.mails next.mails)
     ++ now_from sc noted noted.actor next

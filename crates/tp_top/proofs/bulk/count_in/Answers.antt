@@ -6,7 +6,7 @@ use Rattle.tp_top.proofs.bulk.count_in.Goals as goal
 pub unreachable-requires : goal.unreachable-requires
 unreachable-requires c =
     never_stopped c.args.world.now.scenario c.args.count c.in-Stopped.field-0 c.requires.made
-    (subst (HasRun c.args.world.now.scenario c.run.new.world) c.in-Stopped.is c.in_ok-run.ensures.run)
+    (subst (HasRun c.args.world.now.scenario c.run.new.world) c.in-Stopped.is c.in_ok-run.ensures.run).first
 
 pub returns : goal.returns
 returns c =

@@ -11,7 +11,7 @@ use Rattle.tp_machine.proofs.basics.Parts.{member, no_member, same_logs, same_up
 use Rattle.tp_machine.proofs.actors.Actors.coordinator_crash_in.Goals as goal
 
 pub coordinator_crashes_in-requires : goal.coordinator_crashes_in-requires
-coordinator_crashes_in-requires c =
+coordinator_crashes_in-requires g c =
     let actors = c.args.self.now in
     let part = c.in-Some.part.now in
     let found = member actors.coordinators c.args.txn.0 part (c.in-Some.ensures.variant.0 refl) c.in-Some.ensures.item.1 in
@@ -22,28 +22,28 @@ coordinator_crashes_in-requires c =
     }
 
 pub returns-in-None-clause-ok : goal.returns-in-None-clause-ok
-returns-in-None-clause-ok c =
-    IfOk-weaker c.crash_alone.result _ _
-    (λ made e mails sent. nobody_cuts_either c.args.scenario.now c.args.self.now mails c.args.txn c.args.cut made.0 (no_member c.args.self.now.coordinators c.args.txn.0 c.in-None.ensures.variant.1) e)
-    c.crash_alone.ensures.crash
+returns-in-None-clause-ok g c =
+    IfOk-weaker c.alone.result _ _
+    (λ made e mails sent. nobody_cuts_either c.args.scenario.now c.args.self.now mails c.args.txn c.args.cut made (no_member c.args.self.now.coordinators c.args.txn.0 c.in-None.ensures.variant.1) e)
+    c.alone.ensures
 
 pub returns-in-Some-clause-ok : goal.returns-in-Some-clause-ok
-returns-in-Some-clause-ok c =
+returns-in-Some-clause-ok g c =
     let part = c.in-Some.part.now in
     let found = member c.args.self.now.coordinators c.args.txn.0 part (c.in-Some.ensures.variant.0 refl) c.in-Some.ensures.item.1 in
     IfOk-weaker c.coordinator_crashes_in.result _ _
-    (λ made h mails sent. coordinator_cuts c.args.scenario.now c.args.self.now mails c.args.txn c.args.cut c.args.mail.now part c.coordinator_crashes_in.new.part made.0 found sent h)
+    (λ made h mails sent. coordinator_cuts c.args.scenario.now c.args.self.now mails c.args.txn c.args.cut c.args.mail.now part c.coordinator_crashes_in.new.part made found sent h)
     c.coordinator_crashes_in.ensures.ok
 
 pub returns-in-Some-clause-up : goal.returns-in-Some-clause-up
-returns-in-Some-clause-up c =
+returns-in-Some-clause-up g c =
     record {
       coordinators = same_up c.args.self.now.coordinators c.args.txn.0 c.in-Some.part.now c.coordinator_crashes_in.new.part c.in-Some.ensures.item.1 c.coordinator_crashes_in.ensures.up;
       servers = refl;
     }
 
 pub returns-in-Some-clause-logs : goal.returns-in-Some-clause-logs
-returns-in-Some-clause-logs c =
+returns-in-Some-clause-logs g c =
     on_err_weaker c.coordinator_crashes_in.result
     (λ log. record {
       coordinators = same_logs c.args.self.now.coordinators c.args.txn.0 c.in-Some.part.now c.coordinator_crashes_in.new.part c.in-Some.ensures.item.1 log;
