@@ -1,0 +1,10 @@
+pub mod Acts
+pub mod Automatic
+pub mod Histories
+pub mod Laws
+pub mod Machine
+pub mod OneMaster
+pub mod Operations
+pub mod QuorumView
+pub mod Replica
+pub mod Words
