@@ -4,7 +4,8 @@ use Rattle.std.proofs.lemmas.Bool.{cases_lt}
 use Rattle.tp_device.specs.Disks.{DiskState, MayLeave, after_sync, clean_state}
 use Rattle.tp_device.specs.Memory.{Memory, disk_of}
 use Rattle.tp_log.specs.Images.{Gives}
-use Rattle.tp_log.specs.Logs.{Keeps, LogState, fresh_log, is_kept, kept_after}
+use Rattle.tp_log.specs.Appends.{is_kept, kept_after}
+use Rattle.tp_log.specs.Logs.{Keeps, LogState, fresh_log}
 use Rattle.tp_log.proofs.Appends.{clean_image}
 use Rattle.tp_log.proofs.Blocks.{gives_one}
 use Rattle.tp_log.proofs.Found.{gives_found}

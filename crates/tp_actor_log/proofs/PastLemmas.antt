@@ -5,13 +5,13 @@ use Rattle.tp_device.specs.Disks.{after_sync, clean_state}
 use Rattle.tp_device.specs.Memory.{Memory, disk_of}
 use Rattle.tp_record.specs.Spelling.{content, short, spelling}
 use Rattle.tp_log.specs.Images.{Gives, GivesBehind, blocks}
-use Rattle.tp_log.specs.Logs.{Keeps, LogState, kept_after}
+use Rattle.tp_log.specs.Logs.{Keeps, LogState}
 use Rattle.tp_model.specs.Words.{Cut, Record}
 use Rattle.tp_model.specs.Words.log
 use Rattle.tp_recover.specs.Log.{boots_in, without_boots}
 use Rattle.tp_recover.proofs.BootsApart.{boots_append, without_append}
 use Rattle.tp_actor_log.specs.declared.past.Past.{Past}
-use Rattle.tp_log.specs.Logs.{is_kept}
+use Rattle.tp_log.specs.Appends.{is_kept, kept_after}
 use Rattle.tp_actor_log.specs.mirrors.Disks.{IsForced, records_on}
 use Rattle.tp_actor_log.specs.mirrors.Pasts.{IsPast, IsReadOf, IsWhole}
 use Rattle.tp_actor_log.proofs.DiskLemmas.{HasRecords, reread_records}

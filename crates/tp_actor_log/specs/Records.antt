@@ -1,6 +1,6 @@
 -- The records of an actor's log: which of them a log takes, and what a cut leaves of one.
 use Rattle.std.specs.Prelude.{length, ◌≤◌, ◌++◌, ◌∷◌, [], List, Option, Some, None, if◌then◌else◌}
-use Rattle.tp_log.specs.Logs.{body_max, is_kept}
+use Rattle.tp_log.specs.Appends.{body_max, is_kept}
 use Rattle.tp_model.specs.Words.{Cut, Record}
 use Rattle.tp_record.specs.Spelling.{spelling}
 

@@ -1,6 +1,6 @@
 //! What is done to an actor's log on its disk, of which no call is stopped outside a cut.
 ghost use Rattle.std.specs.Prelude.{◌≡◌, ◌++◌, ◌∷◌, [], false, OnErr, OnOk};
-ghost use Rattle.tp_log.specs.Logs.{kept_after};
+ghost use Rattle.tp_log.specs.Appends.{kept_after};
 ghost use Rattle.tp_actor_log.specs.Records.{FitsLog};
 ghost use Rattle.tp_actor_log.specs.mirrors.Disks.{IsForced, records_on};
 

@@ -8,7 +8,8 @@ use Rattle.tp_device.specs.declared.disk.DiskError.TheVariants as errors
 use Rattle.tp_record.specs.Records.{IsRecord}
 use Rattle.tp_record.specs.Spelling.{spelling}
 use Rattle.tp_log.specs.Images.{Ends, blocks}
-use Rattle.tp_log.specs.Logs.{Adds, Fails, GivesEither, Keeps, LogState, Makes, Stays, append_calls, body_max}
+use Rattle.tp_log.specs.Appends.{body_max}
+use Rattle.tp_log.specs.Logs.{Adds, Fails, GivesEither, Keeps, LogState, Makes, Stays, append_calls}
 use Rattle.tp_log.specs.mirrors.Steps.{Step, Steps, forced_calls}
 use Rattle.tp_log.proofs.Appends.{After, Kept, after_steps, clean_image}
 

@@ -11,7 +11,8 @@ use Rattle.tp_device.specs.declared.disk.DiskError.TheVariants as errors
 use Rattle.tp_record.specs.Records.{IsRecord}
 use Rattle.tp_record.specs.Spelling.{spelling}
 use Rattle.tp_log.specs.Images.{AreRecords, Gives, blocks}
-use Rattle.tp_log.specs.Logs.{Keeps, LogState, Makes, append_calls, kept_after}
+use Rattle.tp_log.specs.Appends.{kept_after}
+use Rattle.tp_log.specs.Logs.{Keeps, LogState, Makes, append_calls}
 use Rattle.tp_log.proofs.Near.{near_behind, near_wrote, opened_ends, seen_behind, seen_gate}
 
 abbrev number : ℕ → Option ℕ

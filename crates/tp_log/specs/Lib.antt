@@ -1,3 +1,4 @@
+pub mod Appends
 pub mod Found
 pub mod Images
 pub mod Logs

@@ -1,5 +1,5 @@
 -- What a log keeps.
-use Rattle.std.specs.Prelude.{◌≡◌, ◌⊎◌, ◌<◌, ◌≤◌, ◌&&◌, ◌||◌, ◌==◌, nat_le, ℕ, ◌+◌, List, [], ◌∷◌, ◌++◌, length, Bool, true, false, Result, Ok, Err, if◌then◌else◌, refl}
+use Rattle.std.specs.Prelude.{◌≡◌, ◌⊎◌, ◌<◌, ◌≤◌, ℕ, ◌+◌, List, [], ◌∷◌, ◌++◌, length, Bool, true, false, Result, Ok, Err, refl}
 use Rattle.std.specs.Coded.{Coded, code_by, coded×, coded_bool, coded_ℕ}
 use Rattle.tp_types.specs.declared.records.Record.{Record}
 use Rattle.tp_device.specs.Disks.{Call, DiskState, MayLeave, Sync, Write, clean_state}
@@ -9,13 +9,10 @@ use Rattle.tp_device.specs.declared.disk.DiskError.TheVariants as disk_errors
 use Rattle.tp_types.specs.Faults.{Rose}
 use Rattle.tp_record.specs.Records.{IsRecord}
 use Rattle.tp_record.specs.Spelling.{spelling}
+use Rattle.tp_log.specs.Appends.{body_max}
 use Rattle.tp_log.specs.Images.{Ends, Gives, blocks}
 use Rattle.tp_log.specs.declared.error.LogError.{LogError}
 use Rattle.tp_log.specs.declared.error.LogError.TheVariants as errors
-
--- the most bytes of a body, 1 MiB
-abbrev pub body_max : ℕ
-body_max = 1048576
 
 -- a log: its disk, the place of the gate that ends it, and whether an append failed
 pub record LogState (D : Type 0) : Type 0 where
@@ -119,13 +116,3 @@ module _ {D : Type 0} (state : D → DiskState) (does : D → Call → Result (U
   AppendEffect old r (Err errors.Closed) new = (old.closed ≡ true) × (new ≡ old)
   AppendEffect old r (Err errors.TooLong) new = (old.closed ≡ false) × (body_max < length (spelling r)) × (new ≡ old)
   AppendEffect old r (Err (errors.NotALog place)) new = ⊥
-
--- ---- a crash within an append
-
--- of an append so many calls passed before the crash, and what was unsynced then reads fill: the record is kept where all
--- four passed, or three did and its gate, which was not synced, reads 1
-abbrev pub is_kept : ℕ → ℕ → Bool
-is_kept calls fill = nat_le 4 calls || (calls == 3 && fill == 1)
-
-abbrev pub kept_after : ℕ → ℕ → List Record → Record → List Record
-kept_after calls fill records r = if is_kept calls fill then records ++ r ∷ [] else records

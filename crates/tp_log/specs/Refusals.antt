@@ -2,7 +2,7 @@
 use Rattle.std.specs.Prelude.{◌≡◌, ◌<◌, ℕ, Bool, true, false, length}
 use Rattle.tp_types.specs.declared.records.Record.{Record}
 use Rattle.tp_record.specs.Spelling.{spelling}
-use Rattle.tp_log.specs.Logs.{body_max}
+use Rattle.tp_log.specs.Appends.{body_max}
 use Rattle.tp_device.specs.declared.disk.DiskError.{DiskError}
 use Rattle.tp_device.specs.declared.disk.DiskError.TheVariants as disk_errors
 use Rattle.tp_log.specs.declared.error.LogError.{LogError}

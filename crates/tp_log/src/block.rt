@@ -2,7 +2,7 @@
 ghost use Rattle.std.specs.Prelude.{◌≡◌, ◌≤◌, ◌<◌, ◌++◌, [], ◌∷◌, length, IfErr, OnOk};
 ghost use Rattle.tp_record.specs.Records.{IsRecord};
 ghost use Rattle.tp_record.specs.Spelling.{spelling};
-ghost use Rattle.tp_log.specs.Logs.{body_max};
+ghost use Rattle.tp_log.specs.Appends.{body_max};
 ghost use Rattle.tp_log.specs.Refusals.{IfTooLong};
 
 use crate::error::LogError;

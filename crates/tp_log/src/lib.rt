@@ -29,9 +29,9 @@
 //! - Every image that a crash of a log's disk may leave gives the log's records; after an append that failed,
 //!   with the new one or without (`Log::disk`, `into_disk`: `kept`, `failed`)
 //! - A log over a disk in memory that is stopped after some calls of an append, and crashes in place, has the new
-//!   record exactly by `kept_after`, which is told (`is_kept`). It is closed until it is read again, nothing on its disk is unsynced, and no call
-//!   of it is stopped. Where such a crash is refused the log keeps its records (`Log::stop_after`, `crash`,
-//!   `crash_in_append`, `run_on`)
+//!   record exactly by `kept_after`, which is told (`is_kept`). It is closed until it is read again, nothing on its
+//!   disk is unsynced, and no call of it is stopped. Where such a crash is refused the log keeps its records
+//!   (`Log::stop_after`, `crash`, `crash_in_append`, `run_on`)
 //! - Where no call of the disk is stopped an append of a record that is not too long to an open log is refused for want
 //!   of memory alone, and the log keeps its records then (`Log::append_running`, `is_open`). A fresh log is open, on
 //!   such a disk, and empty (`Log::fresh`)

@@ -160,7 +160,8 @@ impl Log<MemoryDisk> {
     ghost use Rattle.tp_device.specs.Disks.{MayLeave, after_sync, clean_state};
     ghost use Rattle.tp_device.specs.Memory.{after_crash, disk_of};
     ghost use Rattle.tp_log.specs.Images.{FailsAt, Gives, GivesBehind, blocks};
-    ghost use Rattle.tp_log.specs.Logs.{Keeps, body_max, fresh_log, kept_after};
+    ghost use Rattle.tp_log.specs.Appends.{body_max, kept_after};
+    ghost use Rattle.tp_log.specs.Logs.{Keeps, fresh_log};
     ghost use Rattle.tp_log.specs.Refusals.{IfNotALog, IfUncalled};
 
     /// An empty log on a disk of its own in memory, of which no call is stopped. It is what opening such a disk gives, for which

@@ -10,7 +10,7 @@ use Rattle.tp_quorum.proofs.Told.{known_told, learnt_told, told_at, told_at_some
 use Rattle.tp_quorum.proofs.World.{BodyRests, IsStored, MailRests, PhaseRests, ReplicaRests, Rests, SaysAtLeast, Stores, last_at}
 use Rattle.tp_quorum.specs.Machine.{Move, State, boots_at, crashes_at, idles, replica_takes_at, sends_back, state_after, times_out_at}
 use Rattle.tp_quorum.specs.Operations.{asks_again, requests}
-use Rattle.tp_log.specs.Logs.{is_kept}
+use Rattle.tp_log.specs.Appends.{is_kept}
 use Rattle.tp_actor_log.specs.Records.{cut_record, log_with}
 use Rattle.tp_quorum.specs.Replica.{ReplicaView, crashed, forced_up, forces, is_newer, known_at, learns, left_by, received, received_up, reply_of, reply_up, told_by, told_in, told_of_all}
 use Rattle.tp_quorum.specs.Words.{AdminId, Cut, Operation, Phase, QBody, QMail, QStep, Record, Version}

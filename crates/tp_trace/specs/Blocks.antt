@@ -2,7 +2,7 @@
 use Rattle.std.specs.Prelude.{◌≡◌, ℕ, List, [], ◌∷◌, ◌++◌, ◌&&◌, length, map, drop, slice_get, Bool, true, false, not, nat_lt, Option, Some, None, codes, decimal, option_and_then, if◌then◌else◌}
 use Rattle.std.specs.List.{flat_map}
 use Rattle.std.specs.Option.{option_map_or}
-use Rattle.tp_log.specs.Logs.{is_kept}
+use Rattle.tp_log.specs.Appends.{is_kept}
 use Rattle.tp_machine.specs.Machine.{Machine, State, after, after_step, ending_of, is_down, opening}
 use Rattle.tp_machine.specs.Moves.{logged, moved_by}
 use Rattle.tp_machine.specs.Views.{coordinator_at, server_at}

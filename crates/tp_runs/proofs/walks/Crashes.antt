@@ -15,7 +15,7 @@ use Rattle.tp_machine.specs.declared.error.StepError.TheVariants as error
 use Rattle.tp_machine.specs.Machine.{boot_of_coordinator, boot_of_server, boots, coordinator_boots, coordinator_forces, coordinator_left, crash_of_coordinator, crash_of_server, crash_refusal, crashes}
 use Rattle.tp_machine.specs.Machine.{cut_elsewhere, down_now, goes_down, is_down, is_part_down, is_part_submitted, is_submitted, machine_after, missing_cut, refusal, same_actor}
 use Rattle.tp_actor_log.specs.Records.{cut_record}
-use Rattle.tp_log.specs.Logs.{is_kept}
+use Rattle.tp_log.specs.Appends.{is_kept}
 use Rattle.tp_machine.specs.Machine.{Machine, Move, State, coordinator_fact, coordinator_move, sent_elsewhere, server_boots, server_fact, server_forces, server_left, server_move, state_after, unsubmitted_actor, up_now}
 use Rattle.tp_machine.specs.Named.{IsCrasher, IsServer, IsStepOf, IsTxn}
 use Rattle.tp_machine.specs.Parts.{Part}

@@ -1,6 +1,6 @@
 use Rattle.std.proofs.Common.{List, ap, ◌∙◌}
 use Rattle.tp_types.specs.declared.records.Record.{Record}
-use Rattle.tp_log.specs.Logs.{kept_after}
+use Rattle.tp_log.specs.Appends.{kept_after}
 use Rattle.tp_actor_log.specs.mirrors.Disks.{records_on}
 use Rattle.tp_actor_log.proofs.DiskLemmas.{closed_records, kept_records}
 use Rattle.tp_actor_log.proofs.disks.tear.Goals as goal
