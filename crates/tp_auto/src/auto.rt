@@ -129,6 +129,7 @@ pub fn next(world: &World, cursor: u32) -> Option<Step>
 }
 
 /// The next step. Who is down is not looked for where it is known that nobody is.
+#[inline(always)]
 fn next_knowing(world: &World, cursor: u32, all_up: bool) -> Option<Step>
     requires { KnowsUp all_up world.now }
     ensures value { result ≡ next_of world.now.scenario world.now.machine cursor }

@@ -145,12 +145,8 @@ impl Actors {
         ensures { IfOk result (λ values.
             values ≡ machine.item_values scenario.now self.now.servers 0 scenario.now.items) }
     {
-        item_values(
-            alloc,
-            scenario,
-            self.servers.as_slice(),
-            scenario.items.as_slice(),
-        )
+        let items = scenario.items.as_slice();
+        item_values(alloc, scenario, self.servers.as_slice(), items)
     }
 
     /// An actor crashes in the receipt of a mail to it: what is left of it is on its log. It goes down once that is noted. After
@@ -341,21 +337,15 @@ impl Actors {
     fn to_authority(&self, spares: &mut Spares, mail: &Mail) -> Result<Act, NoMemory>
         ensures { IfOk result (λ act. Moves (machine.to_authority self.now mail.now) self.now act) }
     {
-        let Reaction { append: _, letters } = self.authority.receive(&mut spares.letters, mail)?;
-        Ok(Act {
-            happened: List::new(spares.alloc()),
-            letters,
-        })
+        let reaction = self.authority.receive(&mut spares.letters, mail)?;
+        Ok(sends(spares.alloc(), reaction))
     }
 
     fn to_master(&self, spares: &mut Spares, mail: &Mail) -> Result<Act, NoMemory>
         ensures { IfOk result (λ act. Moves (machine.to_master self.now mail.now) self.now act) }
     {
-        let Reaction { append: _, letters } = self.master.receive(&mut spares.letters, mail)?;
-        Ok(Act {
-            happened: List::new(spares.alloc()),
-            letters,
-        })
+        let reaction = self.master.receive(&mut spares.letters, mail)?;
+        Ok(sends(spares.alloc(), reaction))
     }
 
     /// The master publishes the next version of an administrator's policy.
@@ -367,10 +357,7 @@ impl Actors {
     {
         match self.master.publish(admin) {
             Err(NoMore) => unreachable!(),
-            Ok(version) => Ok(Act {
-                happened: spares.facts.list_of(What::Published(admin, version))?,
-                letters: List::new(spares.alloc()),
-            }),
+            Ok(version) => alone(&mut spares.facts, What::Published(admin, version)),
         }
     }
 
@@ -384,11 +371,8 @@ impl Actors {
         ensures { IfOk result (λ act.
             Moves (machine.pushes self.now admin server) self.now act) }
     {
-        let Reaction { append: _, letters } = self.master.push(&mut spares.letters, admin, server)?;
-        Ok(Act {
-            happened: List::new(spares.alloc()),
-            letters,
-        })
+        let reaction = self.master.push(&mut spares.letters, admin, server)?;
+        Ok(sends(spares.alloc(), reaction))
     }
 
     /// A transaction's timer fires: its coordinator sends its outstanding request again.
@@ -413,12 +397,9 @@ impl Actors {
         ensures up { SameUp self.old self.new }
         ensures logs { SameLogs self.old self.new }
     {
-        let happened = spares.facts.list_of(What::Ticked(by))?;
+        let act = alone(&mut spares.facts, What::Ticked(by))?;
         self.authority.tick(by);
-        Ok(Act {
-            happened,
-            letters: List::new(spares.alloc()),
-        })
+        Ok(act)
     }
 
     /// A credential is revoked.
@@ -427,12 +408,9 @@ impl Actors {
         ensures up { SameUp self.old self.new }
         ensures logs { SameLogs self.old self.new }
     {
-        let happened = spares.facts.list_of(What::Revoked(cred))?;
+        let act = alone(&mut spares.facts, What::Revoked(cred))?;
         self.authority.revoke(cred);
-        Ok(Act {
-            happened,
-            letters: List::new(spares.alloc()),
-        })
+        Ok(act)
     }
 
     /// A transaction is submitted at a place. After NoMemory the actors are up as before, and so are their logs.
@@ -453,12 +431,21 @@ impl Actors {
         ensures logs { OnErr result (SameLogs self.old self.new) }
     {
         match self.coordinators.get_mut(txn.0 as usize) {
-            None => Ok(Act {
-                happened: spares.facts.list_of(What::Submitted(txn))?,
-                letters: List::new(spares.alloc()),
-            }),
+            None => alone(&mut spares.facts, What::Submitted(txn)),
             Some(part) => coordinator_submits(part, spares, watch, scenario, txn, place),
         }
+    }
+}
+
+/// What is sent, where nothing happens and no record is forced.
+#[inline(always)]
+fn sends(alloc: Global, reaction: Reaction) -> Act
+    ensures { result ≡ record { happened = []; letters = reaction.letters } }
+{
+    let Reaction { append: _, letters } = reaction;
+    Act {
+        happened: List::new(alloc),
+        letters,
     }
 }
 
@@ -475,11 +462,8 @@ fn repeats_of(
     match up {
         None => Ok(no_act(spares.alloc())),
         Some(coordinator) => {
-            let Reaction { append: _, letters } = coordinator.timer(&mut spares.letters, scenario)?;
-            Ok(Act {
-                happened: List::new(spares.alloc()),
-                letters,
-            })
+            let reaction = coordinator.timer(&mut spares.letters, scenario)?;
+            Ok(sends(spares.alloc(), reaction))
         }
     }
 }

@@ -1,6 +1,6 @@
 //! What a step does to the actors and the history.
 ghost use Rattle.std.specs.Prelude.{◌≡◌, ◌+◌, ◌<◌, ◌^◌, [], length, false, true, Some, None, slice_get, IfOk, OnOk, OnErr};
-ghost use Rattle.std.specs.Option.{option_and_then, option_copied, option_map_or};
+ghost use Rattle.std.specs.Option.{option_and_then, option_copied};
 ghost use Rattle.tp_coord.specs.Row.{is_armed};
 ghost use Rattle.tp_model.specs.Words.actor;
 ghost use Rattle.tp_model.specs.Words.step;
@@ -56,16 +56,7 @@ fn is_part_submitted(up: Option<&Coordinator>) -> bool
 pub fn is_armed(actors: &Actors, txn: TxnId) -> bool
     ensures { result ≡ machine.is_armed_at actors.now txn }
 {
-    match actors.coordinators.get(txn.0 as usize) {
-        None => false,
-        Some(part) => is_part_armed(part.state()),
-    }
-}
-
-fn is_part_armed(up: Option<&Coordinator>) -> bool
-    ensures { result ≡ option_map_or is_armed (option_copied up.entry) false }
-{
-    match up {
+    match actors.coordinator(txn) {
         None => false,
         Some(coordinator) => coordinator.armed(),
     }
@@ -295,12 +286,8 @@ fn crash(
     ensures same_actors { OnErr result (actors.new ≡ actors.old) }
 {
     let act = alone(&mut spares.facts, What::Crashed(actor))?;
-    history.note(
-        spares,
-        Step::Crash { actor, cut: None },
-        act.happened,
-        act.letters,
-    )?;
+    let taken = Step::Crash { actor, cut: None };
+    history.note(spares, taken, act.happened, act.letters)?;
     actors.goes_down(spares.alloc(), actor);
     Ok(())
 }
@@ -466,13 +453,8 @@ fn boots_nobody(history: &mut History, spares: &mut Spares, actor: Actor) -> Res
     ensures ok { OnOk result (Notes history.old history.new (step.Boot actor) [] []) }
     ensures same_history { OnErr result (SameHistory history.old history.new) }
 {
-    let alloc = spares.alloc();
-    history.note(
-        spares,
-        Step::Boot { actor },
-        List::new(alloc),
-        List::new(alloc),
-    )
+    let act = no_act(spares.alloc());
+    history.note(spares, Step::Boot { actor }, act.happened, act.letters)
 }
 
 fn submit<W: Watch>(
@@ -566,12 +548,8 @@ fn push(
     ensures same_history { OnErr result (SameHistory history.old history.new) }
 {
     let act = actors.push(spares, admin, server)?;
-    history.note(
-        spares,
-        Step::Push { admin, server },
-        act.happened,
-        act.letters,
-    )
+    let taken = Step::Push { admin, server };
+    history.note(spares, taken, act.happened, act.letters)
 }
 
 fn lose(

@@ -16,10 +16,17 @@
 //!   up (`World::facts`: `reached`, `valid`, `named`, `of_steps`; `World::scenario`: `valid`)
 //! - The views show the machine (`World::facts` and `scenario`: `value`; `mails`,
 //!   `steps`, `given_up`, `down`, `undelivered`, `is_submitted`, `armed`; `ending`: `value`)
-//! - Each mail, each server and coordinator that is up, and the records of each log are shown as the machine has them,
-//!   also those alone that a log gained since it ended at a place (`World::sent`, `server`, `coordinator`, `records`,
-//!   `log_end`, `records_behind`)
-//! - A crash in a receipt tells the record that this was to force (`World::step_with_cut`: `forced`; else as `step`)
+//! - Each mail, each server and coordinator that is up, and the records of each log are shown as the machine has them
+//!   (`World::mail`, `sent`, `server`, `coordinator`, `records`)
+//! - Who looks on is shown the world before a step and after it, and hears in between the record that the step has its
+//!   actor force, whole also where a cut leaves nothing of it; of a step that forces none it hears nothing
+//!   (`World::step`: `followed`, `unseen`). A world that runs by itself needs nobody: `Nobody` has no bytes (`Watch`)
+//! - A step moves one actor, or nobody: the machine after it is that move put in its place, the part of every other
+//!   actor is as it was, the mover's log gains just what is left of the record that is heard, and no two actors have
+//!   one number (`steps_move_one_actor`; `moved_by` tells which)
+//! - What an actor does can be had without a world: each act changes the one part that it is given, as the machine has
+//!   that part moved (`server_takes`, `coordinator_takes`, `coordinator_begins` and `Part::placed`, `server_boots`,
+//!   `coordinator_boots`)
 //! - The oldest undelivered mail is the first of the undelivered ones, and it was sent; it is told by a visit of
 //!   one node (`World::oldest`: `value`, `sent`, `counted`)
 //!

@@ -221,57 +221,58 @@ fn hear<W: Watch>(watch: &mut W, alloc: Global, append: &Option<Record>)
 }
 
 /// What an act gives is forced, where what happened in it was told. After NoMemory nothing was forced.
+#[inline(always)]
 fn noted<S: Drop, W: Watch>(
     part: &mut Part<S>,
     watch: &mut W,
     alloc: Global,
-    append: &Option<Record>,
+    reaction: Reaction,
     happened: Result<List<What>, NoMemory>,
-) -> Result<List<What>, NoMemory>
-    requires { IfSome append.now FitsLog }
-    ensures forced { OnOk result (part.new ≡ record part.old { log = log_with part.old.log append.now }) }
+) -> Result<Act, NoMemory>
+    requires { IfSome reaction.append FitsLog }
+    ensures forced { OnOk result (part.new ≡ record part.old {
+      log = log_with part.old.log reaction.append;
+    }) }
     ensures told { (facts : List What) → IfOk happened (λ told. told ≡ facts)
-        → IfOk result (λ told. told ≡ facts) }
-    ensures heard { OnOk result (Heard W.hears watch.old append.now watch.new) }
+        → IfOk result (λ act. act ≡ record { happened = facts; letters = reaction.letters }) }
+    ensures heard { OnOk result (Heard W.hears watch.old reaction.append watch.new) }
     ensures err { OnErr result (part.new ≡ part.old) }
 {
+    let Reaction { append, letters } = reaction;
     let happened = happened?;
-    hear(watch, alloc, append);
-    match part.force(alloc, append) {
-        Ok(()) => Ok(happened),
-        Err(NoMemory) => {
-            drop(happened);
-            Err(NoMemory)
-        }
+    hear(watch, alloc, &append);
+    match part.force(alloc, &append) {
+        Ok(()) => Ok(Act { happened, letters }),
+        Err(NoMemory) => Err(NoMemory),
     }
 }
 
-/// The same where the disk crashes as that is forced.
+/// The same where the disk crashes as that is forced: nothing is sent.
 fn torn<S: Drop, W: Watch>(
     part: &mut Part<S>,
     watch: &mut W,
     alloc: Global,
-    append: &Option<Record>,
+    append: Option<Record>,
     happened: Result<List<What>, NoMemory>,
     cut: Cut,
-) -> Result<List<What>, NoMemory>
-    requires { IfSome append.now FitsLog }
+) -> Result<Act, NoMemory>
+    requires { IfSome append FitsLog }
     ensures torn { OnOk result (part.new ≡ record part.old {
-      log = log_with part.old.log (cut_record cut append.now);
+      log = log_with part.old.log (cut_record cut append);
     }) }
     ensures told { (facts : List What) → IfOk happened (λ told. told ≡ facts)
-        → IfOk result (λ told. told ≡ facts) }
-    ensures heard { OnOk result (Heard W.hears watch.old append.now watch.new) }
+        → IfOk result (λ act. act ≡ record { happened = facts; letters = [] }) }
+    ensures heard { OnOk result (Heard W.hears watch.old append watch.new) }
     ensures err { OnErr result (part.new ≡ part.old) }
 {
     let happened = happened?;
-    hear(watch, alloc, append);
-    match part.cut(alloc, append, cut) {
-        Ok(()) => Ok(happened),
-        Err(NoMemory) => {
-            drop(happened);
-            Err(NoMemory)
-        }
+    hear(watch, alloc, &append);
+    match part.cut(alloc, &append, cut) {
+        Ok(()) => Ok(Act {
+            happened,
+            letters: List::new(alloc),
+        }),
+        Err(NoMemory) => Err(NoMemory),
     }
 }
 
@@ -297,19 +298,9 @@ pub fn server_takes<L: LockTable + Drop, W: Watch>(
     let Some(server) = &mut part.up else {
         return Ok(no_act(alloc));
     };
-    let Reaction { append, letters } = server.receive(&mut spares.letters, scenario, mail)?;
-    let happened = server_facts(&mut spares.facts, at, &append);
-    match noted(part, watch, alloc, &append, happened) {
-        Ok(happened) => {
-            drop(append);
-            Ok(Act { happened, letters })
-        }
-        Err(NoMemory) => {
-            drop(append);
-            drop(letters);
-            Err(NoMemory)
-        }
-    }
+    let reaction = server.receive(&mut spares.letters, scenario, mail)?;
+    let happened = server_facts(&mut spares.facts, at, &reaction.append);
+    noted(part, watch, alloc, reaction, happened)
 }
 
 /// A coordinator receives a mail. After NoMemory nothing is said of its state, but that it is up as before; its log is as
@@ -367,19 +358,9 @@ pub fn coordinator_begins<W: Watch>(
     let Some(coordinator) = &mut part.up else {
         return alone(&mut spares.facts, What::Submitted(txn));
     };
-    let Reaction { append, letters } = coordinator.submit(&mut spares.letters, scenario)?;
-    let happened = with_decision(&mut spares.facts, What::Submitted(txn), &append);
-    match noted(part, watch, alloc, &append, happened) {
-        Ok(happened) => {
-            drop(append);
-            Ok(Act { happened, letters })
-        }
-        Err(NoMemory) => {
-            drop(append);
-            drop(letters);
-            Err(NoMemory)
-        }
-    }
+    let reaction = coordinator.submit(&mut spares.letters, scenario)?;
+    let happened = with_decision(&mut spares.facts, What::Submitted(txn), &reaction.append);
+    noted(part, watch, alloc, reaction, happened)
 }
 
 /// A coordinator's transaction is submitted at a place. After NoMemory it is up as before, and its log is as before.
@@ -435,19 +416,7 @@ pub fn server_crashes_in<L: LockTable + Drop, W: Watch>(
     };
     let append = server.receive(&mut spares.letters, scenario, mail)?.append;
     let happened = server_cut_facts(&mut spares.facts, at, cut, &append);
-    let left = torn(part, watch, alloc, &append, happened, cut);
-    drop(append);
-    Ok(act_of(alloc, left?))
-}
-
-/// An act that sends nothing.
-fn act_of(alloc: Global, happened: List<What>) -> Act
-    ensures { result ≡ record { happened = happened; letters = [] } }
-{
-    Act {
-        happened,
-        letters: List::new(alloc),
-    }
+    torn(part, watch, alloc, append, happened, cut)
 }
 
 /// A coordinator crashes in the receipt of a mail, in the same way.
@@ -481,9 +450,7 @@ pub fn coordinator_crashes_in<W: Watch>(
         .receive(&mut spares.letters, scenario, mail)?
         .append;
     let happened = coordinator_cut_facts(&mut spares.facts, txn, cut, &append);
-    let left = torn(part, watch, alloc, &append, happened, cut);
-    drop(append);
-    Ok(act_of(alloc, left?))
+    torn(part, watch, alloc, append, happened, cut)
 }
 
 /// What happened where a server crashed in a receipt: its crash, and what its log then tells.
@@ -547,24 +514,8 @@ pub fn server_boots<L: LockTable + Drop, W: Watch>(
     let Opening { ranges, values } = opening;
     let kept = part.kept(alloc, scenario, at, values)?;
     let (state, reaction) = Server::booted(alloc, scenario, at, ranges, kept, locks)?;
-    let Reaction { append, letters } = reaction;
-    hear(watch, alloc, &append);
-    let forced = part.force(alloc, &append);
-    drop(append);
-    match forced {
-        Ok(()) => Ok((
-            state,
-            Act {
-                happened: List::new(alloc),
-                letters,
-            },
-        )),
-        Err(NoMemory) => {
-            drop(letters);
-            drop(state);
-            Err(NoMemory)
-        }
-    }
+    let act = noted(part, watch, alloc, reaction, Ok(List::new(alloc)))?;
+    Ok((state, act))
 }
 
 /// A coordinator boots by its log, in the same way.
@@ -586,18 +537,9 @@ pub fn coordinator_boots<W: Watch>(
     ensures log { OnErr result (part.new.log ≡ part.old.log) }
 {
     let (state, reaction) = part.booted(alloc, scenario, txn)?;
-    let Reaction { append, letters } = reaction;
-    let happened = coordinator_facts(alloc, &append);
-    let told = noted(part, watch, alloc, &append, happened);
-    drop(append);
-    match told {
-        Ok(happened) => Ok((state, Act { happened, letters })),
-        Err(NoMemory) => {
-            drop(letters);
-            drop(state);
-            Err(NoMemory)
-        }
-    }
+    let happened = coordinator_facts(alloc, &reaction.append);
+    let act = noted(part, watch, alloc, reaction, happened)?;
+    Ok((state, act))
 }
 
 fn server_facts(

@@ -19,10 +19,6 @@ coordinator_submits-requires g c =
           (subst (λ (o : Option (Part Coordinator)). FitLogs (submission_by c.args.scenario.now actors c.args.txn c.args.place o).actors) found c.requires.fits).coordinators;
     }
 
-pub returns-in_ok-list_of-in-None-clause-ok : goal.returns-in_ok-list_of-in-None-clause-ok
-returns-in_ok-list_of-in-None-clause-ok g c =
-    rw (no_member c.args.self.now.coordinators c.args.txn.0 c.in-None.ensures.variant.1) (record { actors_are = refl; happened_is = c.in_ok-list_of-in-None.ensures; letters_are = c.new.ensures })
-
 pub returns-in-Some-clause-ok : goal.returns-in-Some-clause-ok
 returns-in-Some-clause-ok g c =
     let part = c.in-Some.part.now in
