@@ -1,0 +1,6 @@
+pub mod ByThemselves
+pub mod InputLemmas
+pub mod ListedRun
+pub mod PrintableRun
+pub mod RestLemmas
+pub mod TrustedRun

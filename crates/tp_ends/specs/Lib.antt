@@ -1,0 +1,10 @@
+pub mod After
+pub mod Calls
+pub mod Headline
+pub mod Input
+pub mod Listed
+pub mod Refusals
+pub mod Seen
+pub mod Status
+pub mod Streams
+pub mod Unread
