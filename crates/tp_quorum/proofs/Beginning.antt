@@ -4,7 +4,7 @@ use Rattle.std.proofs.lemmas.Bool.{cases_eq, eq-eqb, ne_eqb}
 use Rattle.tp_types.proofs.EachLemmas.{each_append, each_as, each_get}
 use Rattle.tp_types.specs.Each.{Each}
 use Rattle.tp_quorum.proofs.Counting.{Most, most_all, most_as, none_most}
-use Rattle.tp_quorum.proofs.Facts.{begun_now, counted, most_ended, most_same, start_now}
+use Rattle.tp_quorum.proofs.Facts.{begun_now, counted, ended_at, most_ended, most_same, start_now}
 use Rattle.tp_quorum.proofs.Going.{IsNoAnswer, own_of}
 use Rattle.tp_quorum.proofs.Lists.{at_pushed, got_before, got_last, got_within, pushed_length, same_at, same_length, set_got, set_length, set_other, some_within}
 use Rattle.tp_quorum.proofs.Replicas.{each_request}
@@ -106,7 +106,7 @@ publication_ended w op admin reader now rests none idle = by now rests (sym runs
     by : (later : Phase) → PhaseRests w op admin reader later → (is_running_in later && true && true) ≡ false → has_ended op w.facts ≡ true
     by (phase.Fetching greatest answered) r e = absurd (cc)
     by (phase.Storing version answered) r e = absurd (cc)
-    by (phase.Ended version) r e = r.has_end
+    by (phase.Ended version) r e = ended_at op w.facts version r.has_end
 
 begins_next : (admins : ℕ) (w : State) (admin : AdminId) → Rests admins w → first_where (is_by_publisher admin) 0 w.ops ≡ None → BeginsNext w.facts admin (next_version w.last admin)
 begins_next admins w admin h none = record { next = omega (arith, h.published admin); alone = alone }

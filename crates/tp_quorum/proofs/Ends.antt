@@ -12,24 +12,24 @@ use Rattle.tp_quorum.proofs.Runs.{opening_rests, steps_rest}
 use Rattle.tp_quorum.proofs.World.{MailRests}
 use Rattle.tp_quorum.specs.Automatic.{HasEnd, at_rest, automatic_steps, bound, next_of, running_count}
 use Rattle.tp_quorum.specs.Laws.{AlwaysHasEnd}
-use Rattle.tp_quorum.specs.Machine.{Machine, State, after_step, after_steps, boots_at, delivery, first_where, is_down, is_idle, is_replica_down, is_request, machine_after, move_of, opening, operation_takes, operation_takes_at, receipt, refusal, replica_takes, replica_takes_at, times_out_at}
+use Rattle.tp_quorum.specs.Machine.{IsStepOf, Machine, State, after, after_step, after_steps, boots_at, delivery, first_where, is_down, is_idle, is_replica_down, is_request, machine_after, move_of, opening, operation_takes, operation_takes_at, receipt, refusal, replica_takes, replica_takes_at, times_out_at}
 use Rattle.tp_quorum.specs.Operations.{answers_in, is_running}
 use Rattle.tp_quorum.specs.Replica.{ReplicaView}
-use Rattle.tp_quorum.specs.Words.{Operation, QError, QMail, QStep}
+use Rattle.tp_quorum.specs.Words.{Operation, QError, QMail, QStep, Sizes}
 use Rattle.tp_quorum.specs.Words.error
 use Rattle.tp_quorum.specs.Words.step
 
 -- ---- each automatic step
 
 -- the first that passes a test
-record FirstOf {A : Type 0} (test : A → Bool) (xs : List A) (number found : ℕ) : Type 0 where
+pub record FirstOf {A : Type 0} (test : A → Bool) (xs : List A) (number found : ℕ) : Type 0 where
   pub place : ℕ
   pub member : A
   pub is_found : found ≡ number + place
   pub is_member : slice_get xs place ≡ Some member
   pub passes : test member ≡ true
 
-first_of_where : {A : Type 0} (test : A → Bool) (xs : List A) (number found : ℕ) → first_where test number xs ≡ Some found → FirstOf test xs number found
+pub first_of_where : {A : Type 0} (test : A → Bool) (xs : List A) (number found : ℕ) → first_where test number xs ≡ Some found → FirstOf test xs number found
 first_of_where test [] number found e = absurd (cc)
 first_of_where test (x ∷ xs) number found e = by (test x) refl (first_of_where test xs (number + 1) found) e
   where
@@ -42,7 +42,7 @@ first_of_where test (x ∷ xs) number found e = by (test x) refl (first_of_where
         record { place = suc rest.place; member = rest.member; is_found = omega (arith, rest.is_found); is_member = rest.is_member; passes = rest.passes }
 
 -- it is not refused, and the potential falls
-record Goes (admins replicas ops : ℕ) (m : Machine) (covering : ℕ → Bool) (taken : QStep) : Type 0 where
+pub record Goes (admins replicas ops : ℕ) (m : Machine) (covering : ℕ → Bool) (taken : QStep) : Type 0 where
   pub done : refusal m.state taken ≡ None
   pub falls : Falls admins replicas ops m covering taken (move_of m.state taken)
 
@@ -116,12 +116,12 @@ next_goes admins replicas ops m covering h covers None down None first (Some op)
     })
 next_goes admins replicas ops m covering h covers None down None first None running taken is = absurd (cc)
 
-goes_on : (admins replicas ops : ℕ) (m : Machine) (covering : ℕ → Bool) → MachineRests admins replicas ops m → Covers replicas m covering → (taken : QStep) → next_of m ≡ Some taken → Goes admins replicas ops m covering taken
+pub goes_on : (admins replicas ops : ℕ) (m : Machine) (covering : ℕ → Bool) → MachineRests admins replicas ops m → Covers replicas m covering → (taken : QStep) → next_of m ≡ Some taken → Goes admins replicas ops m covering taken
 goes_on admins replicas ops m covering h covers taken is =
     next_goes admins replicas ops m covering h covers (first_where is_replica_down 0 m.state.replicas) refl (slice_get m.undelivered 0) refl (first_where is_running 0 m.state.ops) refl taken is
 
 -- a step that is not refused is done
-step_done : (m : Machine) (taken : QStep) → refusal m.state taken ≡ None → machine_after m taken ≡ after_step m taken
+pub step_done : (m : Machine) (taken : QStep) → refusal m.state taken ≡ None → machine_after m taken ≡ after_step m taken
 step_done m taken done = sym (ap (λ (refused : Option QError). if is_some refused then m else machine_after m taken) done)
 
 -- ---- so many of them
@@ -195,12 +195,15 @@ steps_sent : (m : Machine) (steps : List QStep) → Each (λ (n : ℕ). n < leng
 steps_sent m [] sent = sent
 steps_sent m (taken ∷ steps) sent = steps_sent (after_step m taken) steps (step_sent m taken sent)
 
+pub after_rests : (sizes : Sizes) (steps : List QStep) → 1 ≤ sizes.replicas → Each (IsStepOf sizes) steps
+    → MachineRests sizes.admins (length (after sizes steps).state.replicas) (length (after sizes steps).state.ops) (after sizes steps)
+after_rests sizes steps some each = record {
+  rests = steps_rest sizes (opening sizes) (opening_rests sizes some) steps each;
+  replica_count = refl;
+  op_count = refl;
+  sent = steps_sent (opening sizes) steps tt;
+}
+
 pub always_has_end : AlwaysHasEnd
 always_has_end = λ sizes steps some each.
-    let m : Machine = after_steps (opening sizes) steps in
-    has_end sizes.admins (length m.state.replicas) (length m.state.ops) m (record {
-      rests = steps_rest sizes (opening sizes) (opening_rests sizes some) steps each;
-      replica_count = refl;
-      op_count = refl;
-      sent = steps_sent (opening sizes) steps tt;
-    })
+    has_end sizes.admins (length (after sizes steps).state.replicas) (length (after sizes steps).state.ops) (after sizes steps) (after_rests sizes steps some each)

@@ -3,6 +3,7 @@ use Rattle.std.proofs.Common.{◌≡◌, ℕ, ◌+◌, ◌<◌, ◌≤◌, ◌==
 use Rattle.tp_types.specs.Each.{Each}
 use Rattle.tp_quorum.proofs.Lists.{got_within, grown, take_before, take_whole}
 use Rattle.tp_quorum.specs.OneMaster.{Beginning, Follows, OneMaster, before_start, beginning_by, beginning_of, begins, count_of, ends, has_ended}
+use Rattle.tp_quorum.specs.QuorumView.{end_by, end_of}
 use Rattle.tp_quorum.specs.Words.{Operation, QFact, QWhat, Version}
 use Rattle.tp_quorum.specs.Words.what
 
@@ -36,6 +37,43 @@ ended_grown op (first ∷ facts) fact = by (ends op first.what) (ended_grown op 
     by : (b : Bool) → has_ended op (facts ++ fact ∷ []) ≡ (has_ended op facts || ends op fact.what) → (b || has_ended op (facts ++ fact ∷ [])) ≡ ((b || has_ended op facts) || ends op fact.what)
     by true later = refl
     by false later = later
+
+-- who ended with a version has ended, and with this version still
+pub ended_at : (op : ℕ) (facts : List QFact) (version : Version) → end_of op facts ≡ Some version → has_ended op facts ≡ true
+ended_at op [] version e = absurd (cc)
+ended_at op (first ∷ facts) version e = by (ends op first.what) (ended_at op facts version) e
+  where
+    by : (b : Bool) → (end_of op facts ≡ Some version → has_ended op facts ≡ true) → (if b then end_by first.what else end_of op facts) ≡ Some version → (b || has_ended op facts) ≡ true
+    by true later here = refl
+    by false later there = later there
+
+pub end_stays : (op : ℕ) (facts : List QFact) (fact : QFact) (version : Version) → end_of op facts ≡ Some version → end_of op (facts ++ fact ∷ []) ≡ Some version
+end_stays op [] fact version e = absurd (cc)
+end_stays op (first ∷ facts) fact version e = by (ends op first.what) (end_stays op facts fact version) e
+  where
+    by : (b : Bool) → (end_of op facts ≡ Some version → end_of op (facts ++ fact ∷ []) ≡ Some version) → (if b then end_by first.what else end_of op facts) ≡ Some version
+        → (if b then end_by first.what else end_of op (facts ++ fact ∷ [])) ≡ Some version
+    by true later here = here
+    by false later there = later there
+
+-- who has not ended has no version
+pub no_end : (op : ℕ) (facts : List QFact) → has_ended op facts ≡ false → end_of op facts ≡ None
+no_end op [] e = refl
+no_end op (first ∷ facts) e = by (ends op first.what) (no_end op facts) e
+  where
+    by : (b : Bool) → (has_ended op facts ≡ false → end_of op facts ≡ None) → (b || has_ended op facts) ≡ false → (if b then end_by first.what else end_of op facts) ≡ None
+    by true later here = absurd (cc)
+    by false later there = later there
+
+-- it ends
+pub end_now : (op : ℕ) (facts : List QFact) (fact : QFact) → has_ended op facts ≡ false → ends op fact.what ≡ true → end_of op (facts ++ fact ∷ []) ≡ end_by fact.what
+end_now op [] fact none e = ap (λ (b : Bool). if b then end_by fact.what else None) e
+end_now op (first ∷ facts) fact none e = by (ends op first.what) (λ rest. end_now op facts fact rest e) none
+  where
+    by : (b : Bool) → (has_ended op facts ≡ false → end_of op (facts ++ fact ∷ []) ≡ end_by fact.what) → (b || has_ended op facts) ≡ false
+        → (if b then end_by first.what else end_of op (facts ++ fact ∷ [])) ≡ end_by fact.what
+    by true later here = absurd (cc)
+    by false later there = later there
 
 -- who has begun has begun so still
 pub begun_stays : (op : ℕ) (facts : List QFact) (fact : QFact) (begun : Beginning) → beginning_of op facts ≡ Some begun → beginning_of op (facts ++ fact ∷ []) ≡ Some begun

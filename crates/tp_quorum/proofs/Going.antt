@@ -1,17 +1,17 @@
 -- Steps in which an operation takes an answer: it waits on, stores what it fetched, or ends.
-use Rattle.std.proofs.Common.{◌≡◌, ℕ, ◌<◌, ◌≤◌, ◌==◌, ◌||◌, List, [], ◌∷◌, ◌++◌, length, slice_get, slice_set, Bool, true, false, Option, Some, None, is_some, refl, sym, ap, subst, arith, ◌∙◌, inl, inr, if◌then◌else◌}
+use Rattle.std.proofs.Common.{◌≡◌, ℕ, ◌<◌, ◌≤◌, ◌==◌, List, [], ◌∷◌, ◌++◌, length, slice_get, slice_set, Bool, true, false, Option, Some, None, is_some, refl, sym, ap, subst, arith, ◌∙◌, inl, inr, if◌then◌else◌}
 use Rattle.std.proofs.lemmas.Bool.{cases_eq, eqb-true, eq-eqb, ne_eqb}
 use Rattle.tp_types.proofs.EachLemmas.{each_as, each_get}
 use Rattle.tp_types.specs.Each.{Each}
 use Rattle.tp_quorum.proofs.Counting.{Most, majorities_share, most_all, most_flags, none_most}
-use Rattle.tp_quorum.proofs.Facts.{begun_stays, ended_by, ended_grown, got_start, is_of, is_of_found, most_of, most_some}
+use Rattle.tp_quorum.proofs.Facts.{begun_stays, end_now, ended_by, got_start, is_of, is_of_found, most_of, most_some}
 use Rattle.tp_quorum.proofs.Lists.{at_changed, changed, got_before, got_within, same_at, same_length, set_got, set_length, set_other, some_within}
 use Rattle.tp_quorum.proofs.Replicas.{each_request, idle_rests}
 use Rattle.tp_quorum.proofs.Stays.{Grows, Goes, MoveRests, PhaseGoes, goes_same, move_rests, op_stays, phase_stays}
 use Rattle.tp_quorum.proofs.Told.{told_at, told_at_some}
 use Rattle.tp_quorum.proofs.World.{BodyRests, FactRests, FetchRests, HasAnswered, IsAtLeast, IsGood, MailRests, OpRests, PhaseRests, Rests, SaysAtLeast, StoreRests, Stores, WhatRests, beginning_as, floor, last_at, version_begun}
 use Rattle.tp_quorum.specs.Machine.{State, in_phase, operation_goes, operation_takes_at, state_after}
-use Rattle.tp_quorum.specs.OneMaster.{Beginning, EndsSo, before_start, beginning_of, has_ended}
+use Rattle.tp_quorum.specs.OneMaster.{Beginning, EndsSo, before_start, beginning_of}
 use Rattle.tp_quorum.specs.Operations.{fetched, greater_of, hears, is_awaited, most_answered, none_yet, stored, to_all, waits}
 use Rattle.tp_quorum.specs.Replica.{ReplicaView}
 use Rattle.tp_quorum.specs.Words.{AdminId, Heard, Operation, Phase, QBody, QFact, QMail, QStep, Version}
@@ -307,7 +307,7 @@ stored_rests admins w taken op admin reader version answered replica h is_op tol
               (record {
                 admin = own.admin;
                 begun = still_begun;
-                now = record { few = old.few; has_end = ended_grown op w.facts (record { place = length w.steps; what = what.Ended op version }) ∙ or_true (has_ended op w.facts) (op == op) (eq-eqb op op refl) };
+                now = record { few = old.few; has_end = end_now op w.facts (record { place = length w.steps; what = what.Ended op version }) old.running (eq-eqb op op refl) };
               });
           sent = tt;
           fact = omega (arith, within, set_length w.ops op ended);
@@ -323,10 +323,6 @@ stored_rests admins w taken op admin reader version answered replica h is_op tol
           };
         })
       where
-        or_true : (b c : Bool) → c ≡ true → (b || c) ≡ true
-        or_true true c e = refl
-        or_true false c e = e
-
         still_begun : beginning_of op (w.facts ++ record { place = length w.steps; what = what.Ended op version } ∷ []) ≡ Some (beginning_as (own_of admin reader (phase.Ended version)))
         still_begun =
             let begins : beginning_as (own_of admin reader (phase.Storing version answered)) ≡ beginning_as (own_of admin reader (phase.Ended version)) =

@@ -1,6 +1,7 @@
 pub mod ActLemmas
 pub mod Beginning
 pub mod Counting
+pub mod DrainLemmas
 pub mod Ends
 pub mod Facts
 pub mod Falls

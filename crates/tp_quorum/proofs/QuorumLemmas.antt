@@ -4,14 +4,15 @@ use Rattle.std.proofs.Common.{◌≡◌, ℕ, ◌+◌, ◌<◌, ◌≤◌, ◌^�
 use Rattle.std.proofs.lemmas.Bool.{eq-eqb, ne_eqb}
 use Rattle.tp_pending.proofs.FlagLemmas.{marked-append, marked-replicate}
 use Rattle.tp_pending.specs.Flags.{marked}
+use Rattle.tp_quorum.proofs.Facts.{no_end}
 use Rattle.tp_quorum.proofs.Lists.{append_length, pushed_length, same_length, set_length, some_within}
 use Rattle.tp_quorum.proofs.Runs.{always_rests}
 use Rattle.tp_quorum.proofs.World.{PhaseRests, Rests}
 use Rattle.tp_quorum.specs.Acts.{Advances, FitNumbers, HasNextVersion, beside, flags_after, machine_of}
 use Rattle.tp_quorum.specs.Machine.{IsStepOf, Machine, Move, State, after_step, after_steps, boots_at, crashes_at, delivery, is_request, machine_after, move_of, moved, opening, operation_takes, operation_takes_at, refusal, replica_takes, replica_takes_at, still_undelivered, times_out_at, without_number}
-use Rattle.tp_quorum.specs.OneMaster.{OneMaster, count_of, has_ended, is_beginning, is_publication, publications}
+use Rattle.tp_quorum.specs.OneMaster.{OneMaster, count_of, is_beginning, is_publication, publications}
 use Rattle.tp_quorum.specs.Operations.{HasFlagsBelow}
-use Rattle.tp_quorum.specs.QuorumView.{CanBegin, Does, IsReached, IsRun, QuorumView, answer_of, is_done, opened_ledger, opened_members, phase_answer}
+use Rattle.tp_quorum.specs.QuorumView.{CanBegin, Does, IsReached, IsRun, QuorumView, answer_by, answer_of, end_of, opened_ledger, opened_members, phase_answer}
 use Rattle.tp_quorum.specs.Replica.{ReplicaView}
 use Rattle.tp_quorum.specs.Words.{AdminId, Operation, Phase, QError, QFact, QMail, QStep, QWhat, Sizes}
 use Rattle.tp_quorum.specs.Words.phase
@@ -148,11 +149,10 @@ steps_count m (taken ∷ steps) = steps_count (after_step m taken) steps ∙ ste
 -- ---- what a run has
 
 run_rests : (sizes : Sizes) (members : Members) (ledger : Ledger) → IsRun sizes members ledger → Rests sizes.admins (machine_of members ledger).state
-run_rests sizes members ledger run = subst (λ (m : Machine). Rests sizes.admins m.state) (sym run.reached.is) (always_rests sizes run.reached.steps run.some run.reached.named)
+run_rests sizes members ledger run = subst (λ (m : Machine). Rests sizes.admins m.state) (sym run.reached.is) (always_rests sizes run.reached.steps run.reached.some run.reached.named)
 
-run_count : (sizes : Sizes) (members : Members) (ledger : Ledger) → IsRun sizes members ledger → length members.replicas ≡ sizes.replicas
-run_count sizes members ledger run =
-    ap (λ (m : Machine). length m.state.replicas) run.reached.is ∙ steps_count (opening sizes) run.reached.steps ∙ same_length sizes.replicas _
+pub reached_count : (sizes : Sizes) (m : Machine) → IsReached sizes m → length m.state.replicas ≡ sizes.replicas
+reached_count sizes m reached = ap (λ (n : Machine). length n.state.replicas) reached.is ∙ steps_count (opening sizes) reached.steps ∙ same_length sizes.replicas _
 
 pub run_has_one_master : (sizes : Sizes) (members : Members) (ledger : Ledger) → IsRun sizes members ledger → OneMaster ledger.facts
 run_has_one_master sizes members ledger run = (run_rests sizes members ledger run).one_master
@@ -164,7 +164,7 @@ flags_below w op admin reader (phase.Ended version) few rests = tt
 
 pub fits : (sizes : Sizes) (members : Members) (ledger : Ledger) → IsRun sizes members ledger → FitNumbers members
 fits sizes members ledger run =
-    let count = run_count sizes members ledger run in
+    let count = reached_count sizes (machine_of members ledger) run.reached in
     let rests = run_rests sizes members ledger run in
     let few : length members.replicas < 2 ^ 32 = omega (arith, count, run.small) in
     record {
@@ -270,8 +270,9 @@ after_more : (m : Machine) (steps : List QStep) (taken : QStep) → after_steps 
 after_more m [] taken = refl
 after_more m (first ∷ steps) taken = after_more (after_step m first) steps taken
 
-reached_next : (sizes : Sizes) (m : Machine) (taken : QStep) → IsReached sizes m → IsStepOf sizes taken → refusal m.state taken ≡ None → IsReached sizes (machine_after m taken)
+pub reached_next : (sizes : Sizes) (m : Machine) (taken : QStep) → IsReached sizes m → IsStepOf sizes taken → refusal m.state taken ≡ None → IsReached sizes (machine_after m taken)
 reached_next sizes m taken reached named done = record {
+  some = reached.some;
   steps = reached.steps ++ taken ∷ [];
   named = each_more (IsStepOf sizes) reached.steps taken reached.named named;
   is =
@@ -293,7 +294,6 @@ run_next sizes members members' ledger ledger' taken run named begins done does 
     let new = same_length (length (move_of (beside members ledger.mails) taken).sent) true in
     let all = append_length ledger.mails (move_of (beside members ledger.mails) taken).sent in
     record {
-      some = run.some;
       small = run.small;
       numbered = omega (arith, pending, mails, flags, new, all, flags_length taken ledger.pending, run.numbered);
       few = omega (arith, ops, count);
@@ -326,15 +326,15 @@ does_step old sizes members members' ledger ledger' given_up given_up' taken (Ok
 -- ---- the first moment, and answers
 
 pub opened_run : (sizes : Sizes) → 1 ≤ sizes.replicas → sizes.replicas < 2 ^ 32 → IsRun sizes (opened_members sizes) opened_ledger
-opened_run sizes some small = record { some = some; small = small; numbered = refl; few = omega arith; reached = record { steps = []; named = tt; is = refl } }
+opened_run sizes some small = record { small = small; numbered = refl; few = omega arith; reached = record { some = some; steps = []; named = tt; is = refl } }
 
-phase_ended : (w : State) (op admin : ℕ) (reader : Option ℕ) (now : Phase) → PhaseRests w op admin reader now → is_done (phase_answer now) ≡ has_ended op w.facts
-phase_ended w op admin reader (phase.Fetching greatest answered) rests = sym rests.running
-phase_ended w op admin reader (phase.Storing version answered) rests = sym rests.running
-phase_ended w op admin reader (phase.Ended version) rests = sym rests.has_end
+phase_ended : (w : State) (op admin : ℕ) (reader : Option ℕ) (now : Phase) → PhaseRests w op admin reader now → phase_answer now ≡ answer_by (end_of op w.facts)
+phase_ended w op admin reader (phase.Fetching greatest answered) rests = sym (ap answer_by (no_end op w.facts rests.running))
+phase_ended w op admin reader (phase.Storing version answered) rests = sym (ap answer_by (no_end op w.facts rests.running))
+phase_ended w op admin reader (phase.Ended version) rests = sym (ap answer_by rests.has_end)
 
-pub answer_ended : (sizes : Sizes) (members : Members) (ledger : Ledger) (op : ℕ) → IsRun sizes members ledger → op < length members.ops → is_done (answer_of (slice_get members.ops op)) ≡ has_ended op ledger.facts
+pub answer_ended : (sizes : Sizes) (members : Members) (ledger : Ledger) (op : ℕ) → IsRun sizes members ledger → op < length members.ops → answer_of (slice_get members.ops op) ≡ answer_by (end_of op ledger.facts)
 answer_ended sizes members ledger op run begun =
     let there = some_within members.ops op begun in
-    ap (λ (found : Option Operation). is_done (answer_of found)) there.1
+    ap answer_of there.1
     ∙ phase_ended (machine_of members ledger).state op there.0.admin.0 there.0.reader there.0.phase ((run_rests sizes members ledger run).ops op there.0 there.1).now

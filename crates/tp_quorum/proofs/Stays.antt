@@ -5,12 +5,13 @@ use Rattle.std.proofs.lemmas.Bool.{cases_lt, ne_eqb}
 use Rattle.tp_types.proofs.EachLemmas.{each_append, each_as, each_more}
 use Rattle.tp_types.specs.Each.{Each, EachAt}
 use Rattle.tp_quorum.proofs.Counting.{Most, most_as}
-use Rattle.tp_quorum.proofs.Facts.{AdminsStay, EndIsThere, IsUnbegun, begun_stays, count_grown, counted, each_start, ended_by, ended_grown, is_of_found, most_ended, most_grown, most_same, most_some, one_master_pushed, start_stays}
+use Rattle.tp_quorum.proofs.Facts.{AdminsStay, EndIsThere, IsUnbegun, begun_stays, count_grown, counted, each_start, end_stays, ended_by, ended_grown, is_of_found, most_ended, most_grown, most_same, most_some, one_master_pushed, start_stays}
 use Rattle.tp_quorum.proofs.Lists.{got_before, got_within, pushed_length, some_within}
 use Rattle.tp_quorum.proofs.Told.{told_at}
 use Rattle.tp_quorum.proofs.World.{BodyRests, FactRests, HasAnswered, IsGood, MailRests, OpRests, PhaseRests, ReplicaRests, Rests, SaysAtLeast, Stores, WhatRests, IsAtLeast, beginning_as, floor, last_at}
 use Rattle.tp_quorum.specs.Machine.{Move, State, state_after, with_fact}
 use Rattle.tp_quorum.specs.OneMaster.{Beginning, Follows, OneMaster, before_start, beginning_of, begins, count_of, ends, has_ended, is_beginning, is_publication}
+use Rattle.tp_quorum.specs.QuorumView.{end_of}
 use Rattle.tp_quorum.specs.Replica.{ReplicaView}
 use Rattle.tp_quorum.specs.Words.{AdminId, Operation, Phase, QBody, QFact, QMail, QStep, QWhat, Version}
 use Rattle.tp_quorum.specs.Words.body
@@ -122,6 +123,10 @@ pub ended_with : (op : ℕ) (facts : List QFact) (place : ℕ) (happened : Optio
 ended_with op facts place None other = refl
 ended_with op facts place (Some said) other = ended_grown op facts (record { place = place; what = said }) ∙ false_or (has_ended op facts) (ends op said) other
 
+end_with : (op : ℕ) (facts : List QFact) (place : ℕ) (happened : Option QWhat) (version : Version) → end_of op facts ≡ Some version → end_of op (with_fact facts place happened) ≡ Some version
+end_with op facts place None version e = e
+end_with op facts place (Some said) version e = end_stays op facts (record { place = place; what = said }) version e
+
 most_with : (ops : List Operation) (admin : ℕ) (facts : List QFact) (place : ℕ) (happened : Option QWhat) → most_ended ops admin (with_fact facts place happened) ≡ max (most_ended ops admin facts) (ended_in ops admin happened)
 most_with ops admin facts place None = omega (arith, most_some ops admin facts)
 most_with ops admin facts place (Some said) = most_grown ops admin facts (record { place = place; what = said })
@@ -232,7 +237,7 @@ phase_rests_still w taken move grows facts op o is_op begun other (phase.Storing
     }
 phase_rests_still w taken move grows facts op o is_op begun other (phase.Ended version) rests = record {
   few = omega (arith, rests.few, grows.last o.admin.0);
-  has_end = ended_with op w.facts (length w.steps) move.happened other ∙ rests.has_end;
+  has_end = end_with op w.facts (length w.steps) move.happened version rests.has_end;
 }
 
 -- an operation that neither changes nor ends now rests on the state after the step too

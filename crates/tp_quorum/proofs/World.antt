@@ -7,6 +7,7 @@ use Rattle.tp_quorum.proofs.Told.{told_at}
 use Rattle.tp_quorum.specs.Machine.{State}
 use Rattle.tp_quorum.specs.OneMaster.{Beginning, OneMaster, before_start, beginning_of, count_of, has_ended, is_beginning, publications}
 use Rattle.tp_quorum.specs.Operations.{most_answered}
+use Rattle.tp_quorum.specs.QuorumView.{end_of}
 use Rattle.tp_quorum.specs.Replica.{ReplicaView, first_version, told_in, told_of_all}
 use Rattle.tp_quorum.specs.Words.{AdminId, Operation, Phase, QBody, QFact, QMail, QWhat, Version}
 use Rattle.tp_quorum.specs.Words.body
@@ -96,7 +97,7 @@ pub record StoreRests (w : State) (op admin : ℕ) (reader : Option ℕ) (versio
 
 pub record EndRests (w : State) (op admin : ℕ) (version : Version) : Type 0 where
   pub few : version.0 ≤ last_at w.last admin
-  pub has_end : has_ended op w.facts ≡ true
+  pub has_end : end_of op w.facts ≡ Some version
 
 abbrev pub PhaseRests : State → ℕ → ℕ → Option ℕ → Phase → Type 0
 PhaseRests w op admin reader (phase.Fetching greatest answered) =

@@ -16,13 +16,17 @@
 //!
 //! - The calls do exactly the table: a step is done where the machine does not refuse it, or refused for the machine's
 //!   reason and nothing changes (`Quorum::step`: `ok`, `err`); what comes next by itself is the machine's next step, or None
-//!   exactly where nothing is left to do (`Quorum::next`); a replica receives, crashes at any device call of a log write,
-//!   and boots by what its disk gives, as its rows say (`Replica`'s calls)
-//! - The facts that are shown are those of one master (`Quorum::facts`: `one_master`); an operation is Done exactly where
-//!   these have its end (`Quorum::answer`: `ended`)
+//!   exactly where nothing is left to do, and that step may be taken and is not refused (`Quorum::next`: `value`,
+//!   `allowed`); a replica receives, crashes at any device call of a log write, and boots by what its disk gives, as its
+//!   rows say (`Replica`'s calls)
+//! - A drain takes exactly the automatic steps, one after another and no more than the bound; then nothing is left to do
+//!   and every operation has ended (`Quorum::drain`: `ok`). It may be called at any moment, and again
+//! - The facts that are shown are those of one master, and what is shown is what some list of steps gives (`Quorum::facts`:
+//!   `one_master`, `reached`); an operation is Done exactly where these have its end, with the version of that end
+//!   (`Quorum::answer`: `ended`)
 //! - Every image that a crash may leave of a replica's disk gives exactly its log (`Replica::disk`)
-//! - Where memory is refused the replicated master is given up, and each later step answers so (`Quorum::step`: `err`);
-//!   what it shows is then promised nothing of
+//! - Where memory is refused the replicated master is given up, and each later step and drain answers so (`Quorum::step`,
+//!   `Quorum::drain`: `err`); what it shows is then promised nothing of
 //!
 //! The laws ask for at least one replica, and that steps name administrators and replicas that exist; the calls lean on
 //! the same, by the conditions of `start` and `step`, and that operations have numbers of 32 bits.

@@ -1,10 +1,10 @@
 //! A replicated master: its calls.
-ghost use Rattle.std.specs.Prelude.{◌≡◌, ◌<◌, ◌≤◌, ◌+◌, ◌^◌, length, replicate, true, false, Some, None, slice_get, IfOk, IfErr, IfSome, OnOk};
+ghost use Rattle.std.specs.Prelude.{◌≡◌, ◌<◌, ◌≤◌, ◌+◌, ◌^◌, length, replicate, true, false, Some, None, slice_get, IfOk, IfErr, IfSome, IsErr, OnOk};
 ghost use Rattle.tp_quorum.specs.Acts.{Advances, FitNumbers, HasNextVersion, beside, machine_of};
 ghost use Rattle.tp_quorum.specs.Automatic.{next_of};
 ghost use Rattle.tp_quorum.specs.Machine as machine;
-ghost use Rattle.tp_quorum.specs.OneMaster.{OneMaster, has_ended};
-ghost use Rattle.tp_quorum.specs.QuorumView.{CanBegin, Does, Refuses, answer_of, is_done, opened_ledger, opened_members, phase_answer};
+ghost use Rattle.tp_quorum.specs.OneMaster.{OneMaster};
+ghost use Rattle.tp_quorum.specs.QuorumView.{CanBegin, Does, Drains, IsNext, IsReached, Refuses, answer_by, answer_of, end_of, opened_ledger, opened_members, phase_answer};
 ghost use Rattle.tp_quorum.specs.Words.error;
 
 use crate::acts::{Members, do_step};
@@ -167,12 +167,13 @@ impl Quorum {
 
     /// Does a step that names what exists, unless it is refused. Where memory is refused the replicated master is given up.
     #[tactic(auto, using(crate::proofs::QuorumLemmas::fits, crate::proofs::QuorumLemmas::has_next_version, crate::proofs::QuorumLemmas::refusal_same))]
-    pub fn step(&mut self, alloc: Global, taken: QStep) -> Result<(), QError>
-        requires named { machine.IsStepOf self.old.sizes taken }
-        requires begins { CanBegin self.old.machine taken }
-        ensures ok { OnOk result (Does self.old self.new taken) }
-        ensures err { IfErr result (Refuses self.old self.new taken) }
+    pub fn step(&mut self, alloc: Global, taken: &QStep) -> Result<(), QError>
+        requires named { machine.IsStepOf self.old.sizes taken.now }
+        requires begins { CanBegin self.old.machine taken.now }
+        ensures ok { OnOk result (Does self.old self.new taken.now) }
+        ensures err { IfErr result (Refuses self.old self.new taken.now) }
     {
+        let taken = *taken;
         if self.given_up {
             return Err(QError::NoMemory);
         }
@@ -188,33 +189,63 @@ impl Quorum {
         )
     }
 
-    /// The facts: they are those of one master.
+    /// The facts: they are those of one master, and of a machine that steps give.
     #[tactic(auto, using(crate::proofs::QuorumLemmas::run_has_one_master))]
     pub fn facts(&self) -> &List<QFact>
         requires { self.now.given_up ≡ false }
         ensures value { result.now ≡ self.now.machine.state.facts }
+        ensures reached { IsReached self.now.sizes self.now.machine }
         ensures one_master { OneMaster result.now }
     {
         &self.ledger.facts
     }
 
-    /// The step that comes next by itself, or None exactly where nothing is left to do. It takes no memory.
+    /// The step that comes next by itself, or None exactly where nothing is left to do. It may be taken, and is not
+    /// refused. It takes no memory.
     #[tactic(auto, using(crate::proofs::QuorumLemmas::fits))]
     pub fn next(&self) -> Option<QStep>
         requires { self.now.given_up ≡ false }
-        ensures { result ≡ next_of self.now.machine }
+        ensures value { result ≡ next_of self.now.machine }
+        ensures allowed { IfSome result (IsNext self.now.sizes self.now.machine) }
     {
         next(&self.members, &self.ledger.pending)
     }
 
-    /// What came of an operation: Done exactly where the facts have its end.
+    /// Takes the steps that come next by themselves, one after another, until nothing is left to do. There are no more of
+    /// them than the bound, so none is counted. Where memory is refused the replicated master is given up.
+    pub fn drain(&mut self, alloc: Global) -> Result<(), NoMemory>
+        ensures ok { OnOk result (Drains self.old self.new) }
+        ensures err { IsErr result → self.new.given_up ≡ true }
+    {
+        if self.given_up {
+            return Err(NoMemory);
+        }
+        let _facts = self.facts();
+        while let Some(taken) = self.next() {
+            match self.step(alloc, &taken) {
+                Ok(()) => {}
+                Err(_) => return Err(NoMemory),
+            }
+        }
+        Ok(())
+    }
+
+    /// What came of an operation: Done exactly where the facts have its end, with the version of that end.
     pub fn answer(&self, op: u32) -> Answer
         requires up { self.now.given_up ≡ false }
         requires begun { op < length self.now.machine.state.ops }
         ensures value { result ≡ answer_of (slice_get self.now.machine.state.ops op) }
-        ensures ended { is_done result ≡ has_ended op self.now.machine.state.facts }
+        ensures ended { result ≡ answer_by (end_of op self.now.machine.state.facts) }
     {
         answer_at(&self.members.ops, op)
+    }
+
+    /// How many operations have begun.
+    pub fn operations(&self) -> u32
+        requires { self.now.given_up ≡ false }
+        ensures { result ≡ length self.now.machine.state.ops }
+    {
+        self.members.ops.len() as u32
     }
 
     /// How many steps were done.
