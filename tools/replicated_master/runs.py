@@ -119,7 +119,8 @@ class Maker:
         if kind == "publish":
             return "publish", self.chance.randrange(admins + (self.chance.random() < 0.02))
         if kind == "read":
-            return "read", self.chance.randrange(max(1, readers + (self.chance.random() < 0.02))), self.chance.randrange(admins)
+            reader = self.chance.randrange(max(1, readers + (self.chance.random() < 0.02)))
+            return "read", reader, self.chance.randrange(admins)
         if kind in ("deliver", "lose"):
             return kind, self.mail(master)
         if kind == "crash":
