@@ -1,10 +1,8 @@
-pub mod BoundLemmas
-pub mod BulkRun
-pub mod ByThemselves
-pub mod ListedRun
-pub mod PrintableRun
+pub mod BulkCases
+pub mod CommandLemmas
+pub mod ListedLemmas
+pub mod OwedLemmas
 pub mod ReadBack
-pub mod RunLemmas
+pub mod RunCases
 pub mod TopLemmas
-pub mod TracedRun
-pub mod TrustedRun
+pub mod TraceCases

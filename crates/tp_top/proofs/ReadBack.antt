@@ -11,7 +11,7 @@ use Rattle.tp_types.proofs.EachLemmas.{each_as, each_from_all, each_get, missing
 use Rattle.tp_types.proofs.ListLemmas.{three_parts}
 use Rattle.tp_model.proofs.RuleLemmas.{rules_of}
 use Rattle.tp_model.specs.Ids.{same_name}
-use Rattle.tp_model.specs.Limits.{calls_limit, has_count, is_from_to, steps_limit, tick_limit}
+use Rattle.tp_model.specs.Limits.{calls_limit, has_count, is_from_to, steps_limit}
 use Rattle.tp_model.specs.SpelledNames.{is_spelled}
 use Rattle.tp_model.specs.Valid.{are_distinct, are_valid_from, has_valid_creds, is_admin, is_cred, is_name_of_server, is_number, is_server, is_txn, is_valid, is_valid_admin, is_valid_cred, is_valid_cut, is_valid_query, is_valid_step, is_valid_txn, may_crash, same_admin_name, same_cred_name, same_server_name, same_txn_name}
 use Rattle.tp_model.specs.Words.{Actor, Admin, AdminId, CredId, Credential, Item, Scenario, ServerDecl, ServerId, Step, Transaction, TxnId}

@@ -1,9 +1,10 @@
-pub mod Headline
-pub mod Input
+pub mod Bulk
 pub mod Laws
-pub mod Listed
+pub mod Promises
 pub mod Refusals
+pub mod Rows
 pub mod Run
-pub mod Status
+pub mod Runs
 pub mod Top
+pub mod Trace
 pub mod mirrors

@@ -1,26 +1,30 @@
-//! The large scenario: it is made, run, and told by one line.
+//! The command `bulk`: a large scenario is made, run, and told by one line.
 ghost use Rattle.std.specs.Prelude.{◌≡◌, ◌≤◌, true, IfOk, OnOk};
 ghost use Rattle.tp_bulk.specs.Bulk as made;
-ghost use Rattle.tp_bulk.specs.Line.{line_of};
-ghost use Rattle.tp_model.specs.Valid as valid;
 ghost use Rattle.tp_machine.specs.Machine.{ending_of};
 ghost use Rattle.tp_machine.specs.WorldView.{start};
+ghost use Rattle.tp_model.specs.Valid as valid;
 ghost use Rattle.tp_runs.specs.Laws.{IsTrustedState};
-ghost use Rattle.tp_top.specs.mirrors.Answers.{IsCounted, IsWhole};
+ghost use Rattle.tp_top.specs.Bulk.{line_told};
+ghost use Rattle.tp_top.specs.mirrors.Commands.{Answers};
+ghost use Rattle.tp_ends.specs.Streams.{Stream};
+ghost use Rattle.tp_ends.specs.Calls.{IsWhole};
+ghost use Rattle.tp_top.specs.mirrors.Runs.{IsCounted};
+ghost use Rattle.tp_words.specs.declared.commands.Command.TheVariants as Command;
 
-use crate::answer::{Answer, proved_facts};
-use crate::ended::{RunEnd, ending, leave, listed_in, run};
+use crate::runs::{RunEnd, listed_in, run};
 use std::alloc::Global;
 use tp_bulk::{run_line, scenario_of};
+use tp_ends::{Answer, ending, leave, proved_facts};
 use tp_machine::{Nobody, World};
 use tp_runs::history;
 use tp_types::{NoMemory, Scenario, Step, Text};
 
-/// Makes the large scenario of so many transactions, and runs it.
-pub(crate) fn bulk(alloc: Global, count: u32) -> Answer
+/// Makes the large scenario of so many transactions, and runs it. It reads no input, whichever that is.
+pub(crate) fn answer(alloc: Global, count: u32) -> Answer
     requires least { 1 ≤ count }
     requires most { count ≤ 128 }
-    ensures { IsCounted count result }
+    ensures { (input : Stream) → Answers (Command.Bulk count) input result }
 {
     match counted(alloc, count) {
         Err(NoMemory) => Answer::NoMemory,
@@ -72,7 +76,8 @@ fn count_in(
 /// The line of a world, of whose history all is told that holds at this moment, and once its transactions are finished.
 fn line_in(alloc: Global, count: u32, world: &World) -> Result<Text, NoMemory>
     ensures text { IfOk result (λ text.
-        text.0 ≡ line_of count world.now.machine.state.facts
+        text.0 ≡ line_told count world.now.scenario world.now.machine.state.steps
+        world.now.machine.state.facts
         (ending_of world.now.scenario world.now.machine.state)) }
     ensures so_far { OnOk result (IsTrustedState world.now.scenario world.now.machine.state) }
     ensures whole { OnOk result (IsWhole world.now.scenario world.now.machine.state) }

@@ -1,17 +1,18 @@
 //! The top call of the program.
-ghost use Rattle.std.specs.Prelude.{◌≡◌, ◌⊎◌, ◌+◌, ℕ, IfSome};
-ghost use Rattle.tp_types.specs.Faults.{Rose};
+ghost use Rattle.std.specs.Prelude.{◌≡◌, ◌≤◌, ℕ};
 ghost use Rattle.tp_io.specs.Whole.{TakesAtMost};
-ghost use Rattle.tp_top.specs.declared.status.Status.TheVariants as Status;
-ghost use Rattle.tp_top.specs.Headline.{CountsTrusted, PrintsTrusted, TracesTrusted};
-ghost use Rattle.tp_top.specs.Input.{input_max};
-ghost use Rattle.tp_top.specs.Run.{IsBulk, IsRun, IsTrace};
-ghost use Rattle.tp_top.specs.Top.{Ends, EndsRightly, EndsWith};
-ghost use Rattle.tp_words.specs.Commands.{IsNoCommand};
+ghost use Rattle.tp_top.specs.Promises.{Promises};
+ghost use Rattle.tp_top.specs.Rows.{Owes, TakesWithin};
+ghost use Rattle.tp_ends.specs.Seen.{Ends, call_of, seen};
+ghost use Rattle.tp_top.specs.Top.{EndsWith};
+ghost use Rattle.tp_ends.specs.declared.status.Status.TheVariants as Status;
+ghost use Rattle.tp_types.specs.Faults.{Rose};
+ghost use Rattle.tp_words.specs.Commands.{IsCommand, IsNoCommand};
+ghost use Rattle.tp_words.specs.declared.commands.Command.{Command};
 
-use crate::answer::{Answer, answer_to};
-use crate::status::Status;
+use crate::answer::answer_to;
 use std::alloc::Global;
+use tp_ends::{Answer, Status};
 use tp_io::{Sink, Source, write_all};
 use tp_types::{NoMemory, Text};
 use tp_words::command_of;
@@ -27,55 +28,31 @@ pub fn tpvc<I: Source, O: Sink, N: Sink>(
     out: &mut O,
     notes: &mut N,
 ) -> Status
-    // The headline, by the command.
-    ensures printed { IsRun words.now → result ≡ Status.Done
-        → PrintsTrusted (I.left input.old) (I.left input.new) (O.written out.old) (O.written out.new) }
-    ensures traced { IsTrace words.now → result ≡ Status.Done
-        → TracesTrusted (I.left input.old) (I.left input.new) (O.written out.old) (O.written out.new) }
-    ensures counted { (count : ℕ) → IsBulk words.now count → result ≡ Status.Done
-        → CountsTrusted count (O.written out.old) (O.written out.new) }
+    // The headline: what a command promises where its call is done.
+    ensures promised { (command : Command) → IsCommand words.now command → result ≡ Status.Done
+        → Promises command (call_of words.now
+        (seen I.left I.faults input.old input.new) (seen O.written O.faults out.old out.new)
+        (seen N.written N.faults notes.old notes.new)) }
 
     // What the call was, by its status.
-    ensures ended { EndsWith result (record {
-      words = words.now;
-      input = record {
-        old = I.left input.old;
-        new = I.left input.new;
-        faults_old = I.faults input.old;
-        faults_new = I.faults input.new;
-      };
-      out = record {
-        old = O.written out.old;
-        new = O.written out.new;
-        faults_old = O.faults out.old;
-        faults_new = O.faults out.new;
-      };
-      notes = record {
-        old = N.written notes.old;
-        new = N.written notes.new;
-        faults_old = N.faults notes.old;
-        faults_new = N.faults notes.new;
-      };
-    }) }
+    ensures ended { EndsWith result (call_of words.now
+        (seen I.left I.faults input.old input.new) (seen O.written O.faults out.old out.new)
+        (seen N.written N.faults notes.old notes.new)) }
 
-    // Where no count rose, words that are no command are answered by usage, each cause in an input that is told by its
-    // status, so that a scenario of which no listed step is refused has its report, and a large scenario has its line;
+    // Where nothing failed, a command owes a status for each cause; and words that are no command are answered by usage;
     // or by want of memory.
+    ensures complete { (command : Command) → IsCommand words.now command
+        → Owes command (call_of words.now
+        (seen I.left I.faults input.old input.new) (seen O.written O.faults out.old out.new)
+        (seen N.written N.faults notes.old notes.new)) result }
     ensures called { IsNoCommand words.now → ¬ (Rose (N.faults notes.old) (N.faults notes.new))
         → Ends result Status.Usage }
-    ensures complete { IsRun words.now ⊎ IsTrace words.now
-        → ¬ (Rose (I.faults input.old) (I.faults input.new))
-        → ¬ (Rose (O.faults out.old) (O.faults out.new))
-        → ¬ (Rose (N.faults notes.old) (N.faults notes.new))
-        → IfSome (I.left input.old) (λ bytes.
-        EndsRightly bytes result (N.written notes.old) (N.written notes.new)) }
-    ensures finished { (count : ℕ) → IsBulk words.now count
-        → ¬ (Rose (O.faults out.old) (O.faults out.new)) → Ends result Status.Done }
 
-    // At every status at most one byte more than an input may have is read, and where the words are neither `run` nor
-    // `trace` none is.
-    ensures taken { TakesAtMost (input_max + 1) (I.left input.old) (I.left input.new) }
-    ensures unread { ¬ (IsRun words.now) → ¬ (IsTrace words.now) → input.new ≡ input.old }
+    // At every status no more is read than the command may take, if the words are one, and where that is nothing the
+    // input stays as it is.
+    ensures taken { (most : ℕ) → TakesWithin words.now most
+        → TakesAtMost most (I.left input.old) (I.left input.new) }
+    ensures unread { TakesWithin words.now 0 → input.new ≡ input.old }
 {
     let command = match command_of(alloc, words) {
         Err(NoMemory) => return Status::NoMemory,

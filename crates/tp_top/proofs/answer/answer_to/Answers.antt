@@ -1,7 +1,10 @@
-use Rattle.tp_top.proofs.RunLemmas.{answers_bulk}
+use Rattle.std.proofs.Common.{subst, sym}
+use Rattle.tp_ends.specs.Seen.{seen}
+use Rattle.tp_top.specs.mirrors.Commands.{Answers}
+use Rattle.tp_words.specs.declared.commands.Command.{Command}
 use Rattle.tp_top.proofs.answer.answer_to.Goals as goal
 
 pub returns-in-Bulk-clause-cause : goal.returns-in-Bulk-clause-cause
 returns-in-Bulk-clause-cause g c =
-    answers_bulk (g.I.Source.left c.args.input.now) (g.I.Source.left c.args.input.now) (g.I.Source.faults c.args.input.now) (g.I.Source.faults c.args.input.now)
-    c.args.command c.in-Bulk.count c.bulk.result c.in-Bulk.is c.requires c.bulk.ensures
+    let input = seen g.I.Source.left g.I.Source.faults c.args.input.now c.args.input.now in
+    subst (λ (command : Command). Answers command input c.answer-in-Bulk.result) (sym c.in-Bulk.is) (c.answer-in-Bulk.ensures input)

@@ -1,5 +1,0 @@
-use Rattle.tp_top.proofs.RunLemmas.{answers_traced}
-use Rattle.tp_top.proofs.answer.answer_by_trace.Goals as goal
-
-pub returns-in-Ok-clause-cause : goal.returns-in-Ok-clause-cause
-returns-in-Ok-clause-cause g c = answers_traced _ _ _ _ c.in-Ok.scenario c.traced.result c.in-Ok.ensures.read c.traced.ensures
