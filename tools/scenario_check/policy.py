@@ -46,12 +46,15 @@ class Condition:
 
 
 class Allowance:
-    """A rule: an action, a pattern of items, and a condition. Of an `and` beside an `or` without parentheses it has the
-    start and the end in the text, or None."""
+    """A rule: an action, a pattern of items, and a condition. It has the start and the end of the pattern in the text, and
+    those of an `and` beside an `or` without parentheses, or None."""
 
-    def __init__(self, action, pattern, is_prefix, condition, beside=None):
+    def __init__(self, action, pattern, is_prefix, condition, about, beside=None):
         self.action, self.pattern, self.is_prefix, self.condition = action, pattern, is_prefix, condition
-        self.beside = beside
+        self.about, self.beside = about, beside
+
+    def is_about_item(self, item):
+        return item.startswith(self.pattern) if self.is_prefix else item == self.pattern
 
 
 class Parser:
@@ -110,14 +113,16 @@ class Parser:
         action = self.word("read", "write", "any")
         self.word("on")
         self.skip_blanks()
+        start = self.at
         pattern = "" if self.here() == "*" else self.name("an item, a prefix with * behind it, or *")
         is_prefix = self.here() == "*"
         self.at += is_prefix
+        about = start, self.at
         self.word("if")
         self.beside = None
         condition = self.condition()
         self.word("and", "or", ";")
-        return Allowance(action, pattern, is_prefix, condition, self.beside)
+        return Allowance(action, pattern, is_prefix, condition, about, self.beside)
 
     def joined(self, word, member):
         """Members with a word between them; one alone is itself."""

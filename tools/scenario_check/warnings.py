@@ -9,7 +9,8 @@ from .refusals import refusals_of
 from .walk import some_of
 
 KINDS = (
-    "repeated", "precedence", "denied", "outside", "nevervalid", "stranger", "unset", "noattr", "novalue", "norule",
+    "repeated", "noitem", "precedence", "denied", "outside", "nevervalid", "stranger", "unset", "noattr", "novalue",
+    "norule",
     "late", "unpublished", "older", "unpresented", "none", "refusal", "pushed", "unpushed", "last", "script",
 )
 ACTING = ("tick", "revoke", "publish", "push")
@@ -23,8 +24,8 @@ class Told:
         self.word, self.known = word, known
 
     def hint(self):
-        """A likely spelling, or None."""
-        return near(self.word, self.known)
+        """A likely spelling, or None. Where one alone is known that is no word, it is meant."""
+        return "*" if self.known == ["*"] else near(self.word, self.known)
 
 
 def place_of(node):
@@ -92,10 +93,12 @@ def of_keys(scenario):
 
 def of_policies(scenario):
     for admin in scenario.admins:
+        items = [item["name"] for item in scenario.items if item["admin"] == admin["name"]]
         nodes = admin.nodes["policies"].value
         for at, (rules, node) in enumerate(zip(admin["policies"], nodes)):
             path = f"{admin.path}.policies[{at}]"
             for rule in rules:
+                yield from of_pattern(scenario, admin["name"], items, rule, path, node)
                 yield from of_precedence(scenario, rule, path, node)
             for atom in (atom for rule in rules for atom in rule.condition.atoms()):
                 yield from of_atom(scenario, atom, path, scenario.inside(node, atom.start, atom.end))
@@ -106,6 +109,16 @@ def of_policies(scenario):
                 versions = f"version {len(nodes)} is"
             words = f"{versions} published by no step: add publish {admin['name']}"
             yield Told("unpublished", admin.path, place_of(nodes[published]), words)
+
+
+def of_pattern(scenario, admin, items, rule, path, node):
+    """Of a rule that is about no item of its administrator, who has some."""
+    if items and not any(map(rule.is_about_item, items)):
+        words = f"no item of {admin} is called {rule.pattern}, so this rule allows nothing"
+        if rule.is_prefix:
+            words = f"no item of {admin} begins with {rule.pattern}, so this rule allows nothing"
+        known = ["*"] if rule.pattern in ("any", "all") else items
+        yield Told("noitem", path, scenario.inside(node, *rule.about), words, rule.pattern, known)
 
 
 def of_precedence(scenario, rule, path, node):
