@@ -20,7 +20,8 @@ use Rattle.tp_ends.specs.declared.listed.StepRefusal.{StepRefusal}
 
 -- ---- steps that are done
 
--- the first of the steps that the old world refuses is told; where there is none, the new world is the one after all of them
+-- the first of the steps that the old world refuses is told; where there is none, the new world is the one after all of
+-- them
 pub record Follows (old new : WorldView) (steps : List Step) (refused : Option StepRefusal)
     : Type 0 where
   pub first : refused ≡ refused_from old.scenario old.machine 0 steps
@@ -51,7 +52,8 @@ Settles old new = (steps : List Step) → IsAfter steps old → IsAtRest old.sce
 
 -- ---- what is shown of a state
 
--- where all of its transactions are finished they have ended, and where they have, its values are those that all commits leave
+-- where all of its transactions are finished they have ended, and where they have, its values are those that all
+-- commits leave
 pub record IsWhole (sc : Scenario) (w : State) : Type 0 where
   pub ended : HasAllEnds sc w
   pub commits : HasAllCommits sc w

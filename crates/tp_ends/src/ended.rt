@@ -32,8 +32,8 @@ pub fn ending(world: &World, alloc: Global) -> Result<Ending, NoMemory>
     history::ending(world, alloc)
 }
 
-/// Leaves what a command took to the end of the process, which gives all memory back at once: the program ends behind its
-/// answer, and letting go of a world piece by piece takes a twentieth of its run.
+/// Leaves what a command took to the end of the process, which gives all memory back at once: the program ends behind
+/// its answer, and letting go of a world piece by piece takes a twentieth of its run.
 pub fn leave<T: Drop>(taken: T) {
     forget(taken);
 }

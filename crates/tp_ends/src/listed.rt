@@ -17,8 +17,8 @@ pub struct StepRefusal {
     pub why: StepError,
 }
 
-/// Does the steps in order, until one is refused, and answers which and why; None exactly where all were done. Who looks on
-/// sees those that are done.
+/// Does the steps in order, until one is refused, and answers which and why; None exactly where all were done. Who
+/// looks on sees those that are done.
 pub fn follow<W: Watch>(
     world: &mut World,
     alloc: Global,

@@ -19,7 +19,8 @@ use tp_runs::data::serial;
 use tp_runs::views::trusted;
 use tp_types::{Fact, List, NoMemory, Text};
 
-/// The facts of a world, with what is promised of each: they agree, commits are trusted, serial and apart, and aborts have causes.
+/// The facts of a world, with what is promised of each: they agree, commits are trusted, serial and apart, and aborts
+/// have causes.
 pub fn proved_facts(world: &World) -> &List<Fact>
     ensures value { result.now ≡ world.now.machine.state.facts }
     ensures agreement { is_agreed world.now.scenario result.now ≡ true }
@@ -33,7 +34,8 @@ pub fn proved_facts(world: &World) -> &List<Fact>
     agreed(world)
 }
 
-/// The report of a world, of whose history all is told that holds at this moment, and once its transactions are finished.
+/// The report of a world, of whose history all is told that holds at this moment, and once its transactions are
+/// finished.
 pub fn text_of(alloc: Global, world: &World) -> Result<Text, NoMemory>
     ensures text { IfOk result (λ text.
         text.0 ≡ report_text world.now.scenario world.now.machine.state.facts

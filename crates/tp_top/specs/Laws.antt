@@ -16,8 +16,8 @@ pub record SaysOnly (sc : Scenario) (taken : Step) (text : List ℕ) : Type 0 wh
   pub says : IsStep (names_of sc) taken text
   pub no_other : (other : Step) → IsStep (names_of sc) other text → other ≡ taken
 
--- in a valid scenario whose names are spelled as names, the text of a step that it may list says this step alone; a valid step
--- names what exists, and its numbers are in their ranges, so a mail's number has at most 15 digits
+-- in a valid scenario whose names are spelled as names, the text of a step that it may list says this step alone; a
+-- valid step names what exists, and its numbers are in their ranges, so a mail's number has at most 15 digits
 abbrev pub StepsAreReadBack : Type 0
 StepsAreReadBack =
     (sc : Scenario) (taken : Step) → is_valid sc ≡ true → is_spelled sc ≡ true

@@ -35,8 +35,8 @@ pub record RunsTo (told : Told) (input : Stream) (text : List ℕ) : Type 0 wher
 abbrev pub nothing_before : Scenario → List Step → List ℕ
 nothing_before sc steps = []
 
--- a listed step is refused; the text is what is told of the steps before the first such step, and the line says which that
--- is, and why
+-- a listed step is refused; the text is what is told of the steps before the first such step, and the line says which
+-- that is, and why
 pub record StopsAt (before : Scenario → List Step → List ℕ) (sc : Scenario) (text line : List ℕ) : Type 0 where
   pub refused : StepRefusal
   pub first : first_refused sc ≡ Some refused
@@ -60,7 +60,7 @@ abbrev pub EndsRefused : Status → Stream → List ℕ → Type 0
 EndsRefused status notes line =
     ((status ≡ Refused) × Appends notes.old notes.new line) ⊎ (status ≡ NoMemory)
 
--- each cause in the input has its status, and its line where it is a refusal; a scenario of which no listed step is refused is done
+-- each cause in the input has its line, and a scenario of which no listed step is refused is done
 pub record EndsRightly (input : List ℕ) (status : Status) (notes : Stream) : Type 0 where
   pub too_long : input_max < length input → EndsRefused status notes (refusal_line error.TooLong)
   pub refused : (why : ScenarioError) → AreRefused input why

@@ -20,8 +20,8 @@ pub record IsDone (call : Call) : Type 0 where
   pub written : Appends call.out.old call.out.new text
   pub notes_kept : IsUntouched call.notes
 
--- the words are a command, which is refused; what is told before that was written to out, which for `run` is nothing, and the
--- line that says why to notes
+-- the words are a command, which is refused; what is told before that was written to out, and the line that says why to
+-- notes
 pub record IsRefused (call : Call) : Type 0 where
   pub command : Command
   pub words_are : IsCommand call.words command
@@ -60,7 +60,7 @@ pub record IsOutFault (call : Call) : Type 0 where
   pub rose : HasFailed call.out
   pub notes_kept : IsUntouched call.notes
 
--- out failed after a part of what is told before a refusal, and notes were kept; for `run` it does not, as that is empty
+-- out failed after a part of what is told before a refusal, and notes were kept
 pub record IsTellingFault (call : Call) : Type 0 where
   pub command : Command
   pub words_are : IsCommand call.words command
@@ -71,7 +71,7 @@ pub record IsTellingFault (call : Call) : Type 0 where
   pub rose : HasFailed call.out
   pub notes_kept : IsUntouched call.notes
 
--- notes failed after a part of the line of a refusal, and what is told before it was written to out, which for `run` is nothing
+-- notes failed after a part of the line of a refusal, and what is told before it was written to out
 pub record IsRefusalFault (call : Call) : Type 0 where
   pub command : Command
   pub words_are : IsCommand call.words command

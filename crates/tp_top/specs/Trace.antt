@@ -12,8 +12,8 @@ use Rattle.tp_trace.specs.Laws.{told_of}
 abbrev pub trace_told : Told
 trace_told sc steps facts ending = trace_text sc steps ++ ending_text sc ending
 
--- the input was read whole as a scenario, and exactly the trace of the steps of a trusted history of it was written, and how
--- it has ended; its report is what the lines of the trace say of facts, between the head of a report and its last lines
+-- the input was read whole as a scenario, and exactly the trace of a trusted history of it was written; its report is
+-- what the lines of the trace say of facts, between the head of a report and its last lines
 pub record TracesTrusted (input out : Stream) : Type 0 where
   pub scenario : Scenario
   pub read : IsRead input scenario

@@ -53,8 +53,8 @@ fn count_run(alloc: Global, count: u32, scenario: Scenario) -> Result<Answer, No
     answer
 }
 
-/// Runs the scenario, of which these steps are listed, in its world. They are submissions, each of another transaction, and
-/// none is refused.
+/// Runs the scenario, of which these steps are listed, in its world. They are submissions, each of another transaction,
+/// and none is refused.
 fn count_in(
     alloc: Global,
     count: u32,

@@ -52,8 +52,8 @@ fn report(alloc: Global, scenario: Scenario) -> Result<Answer, NoMemory>
     answer
 }
 
-/// Runs a scenario, of which these steps are listed, in its world, and prints the report, or the line of the first step that
-/// is refused.
+/// Runs a scenario, of which these steps are listed, in its world, and prints the report, or the line of the first step
+/// that is refused.
 fn report_in(alloc: Global, world: &mut World, steps: &[Step]) -> Result<Answer, NoMemory>
     requires valid { valid.is_valid world.old.scenario ≡ true }
     requires fresh { world.old ≡ start world.old.scenario }

@@ -17,10 +17,10 @@ use tp_io::{Sink, Source, write_all};
 use tp_types::{NoMemory, Text};
 use tp_words::command_of;
 
-/// Does all that the program does. For the command `run` it reads the input, and writes its report to `out`, or why
-/// there is none to `notes`; for the command `trace` it writes its trace, also as far as a step that is refused; for the
-/// command `bulk` with a number it makes a large scenario, and writes the line of its run to `out`. It always returns.
-/// The whole text is made before the first write, and the writes take no memory.
+/// Does all that the program does: it finds the command that the words are, has the answer to it made, reading the input
+/// where the command has one, and writes what it asks for to `out`, or what is told before a refusal to `out`, and the
+/// line of the refusal to `notes`. It always returns. The whole text is made before the first write, and the writes take
+/// no memory.
 pub fn tpvc<I: Source, O: Sink, N: Sink>(
     alloc: Global,
     words: &[Text],
@@ -39,8 +39,8 @@ pub fn tpvc<I: Source, O: Sink, N: Sink>(
         (seen I.left I.faults input.old input.new) (seen O.written O.faults out.old out.new)
         (seen N.written N.faults notes.old notes.new)) }
 
-    // Where nothing failed, a command owes a status for each cause; and words that are no command are answered by usage;
-    // or by want of memory.
+    // Where nothing failed, a command owes a status for each cause; and words that are no command are answered by
+    // usage; or by want of memory.
     ensures complete { (command : Command) → IsCommand words.now command
         → Owes command (call_of words.now
         (seen I.left I.faults input.old input.new) (seen O.written O.faults out.old out.new)

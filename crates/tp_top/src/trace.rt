@@ -59,8 +59,8 @@ fn trace(alloc: Global, scenario: Scenario) -> Result<Answer, NoMemory>
     answer
 }
 
-/// Runs a scenario, of which these steps are listed, in its world, and prints the trace, or that of the steps before the first
-/// one that is refused.
+/// Runs a scenario, of which these steps are listed, in its world, and prints the trace, or that of the steps before
+/// the first one that is refused.
 fn trace_in(alloc: Global, world: &mut World, steps: &[Step]) -> Result<Answer, NoMemory>
     requires valid { valid.is_valid world.old.scenario ≡ true }
     requires fresh { world.old ≡ start world.old.scenario }
@@ -78,8 +78,8 @@ fn trace_in(alloc: Global, world: &mut World, steps: &[Step]) -> Result<Answer, 
     }
 }
 
-/// The trace of all steps of a world and how it has ended, of whose history all is told that holds at this moment, and once
-/// its transactions are finished.
+/// The trace of all steps of a world and how it has ended, of whose history all is told that holds at this moment, and
+/// once its transactions are finished.
 fn whole(mut out: Vec<u8>, alloc: Global, world: &World) -> Result<Text, NoMemory>
     requires told { IsTraceOf world.now out.items }
     ensures text { IfOk result (λ text.
