@@ -1,0 +1,9 @@
+pub mod RunLemmas
+pub mod MeetingLemmas
+pub mod RowLemmas
+pub mod ReplayLemmas
+pub mod DeliveryLemmas
+pub mod OpeningLemmas
+pub mod AnswerLemmas
+pub mod ClosingLemmas
+pub mod StepLemmas

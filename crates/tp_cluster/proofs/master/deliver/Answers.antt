@@ -1,0 +1,36 @@
+use Rattle.std.proofs.Common.{◌∙◌, refl, sym}
+use Rattle.tp_model.specs.Words.actor
+use Rattle.tp_model.specs.Words.step
+use Rattle.tp_cluster.specs.Offices.Held.{OfMaster}
+use Rattle.tp_cluster.specs.Runs.{state_at}
+use Rattle.tp_cluster.proofs.DeliveryLemmas.{sent_later}
+use Rattle.tp_cluster.proofs.MeetingLemmas.{held_later}
+use Rattle.tp_cluster.proofs.RowLemmas.{by_name, master_acted, is_master}
+use Rattle.tp_cluster.proofs.master.deliver.Goals as goal
+
+pub finish-requires-clause-may : goal.finish-requires-clause-may
+finish-requires-clause-may g c =
+    let sc = g.B.Site.about.scenario in
+    let who = c.office.inside.actor in
+    let held = OfMaster c.office.inside.state in
+    let v = c.args.pass.now.view in
+    let met = c.meet.new.pass in
+    let m = c.meet.ensures.met who held c.office.invariant.1 in
+    let state = c.office.inside.state in
+    let act = c.in-Ok.act in
+    let mail = c.args.mail.now in
+    let given = c.args.given in
+    record {
+      held = held;
+      view = v;
+      met_is = m;
+      may = λ log f.
+          by_name sc (state_at sc log) (step.Deliver given) who actor.Master held held act.happened act.letters (is_master (state_at sc log).actors who state (held_later sc g.B.Site.table who held v met m log f)) (held_later sc g.B.Site.table who held v met m log f)
+          (λ here. master_acted sc (state_at sc log) given mail state act here (sent_later sc g.B.Site.table who held v met m given mail c.requires.sent log f) c.requires.to c.in-Ok.ensures.0 c.in-Ok.ensures.1);
+    }
+
+pub returns-in-Ok-clause-answer : goal.returns-in-Ok-clause-answer
+returns-in-Ok-clause-answer g c =
+    let who = c.office.inside.actor in
+    let held = OfMaster c.office.inside.state in
+    c.finish.ensures.answer c.args.pass.now held c.requires.ready (c.meet.ensures.met who held c.office.invariant.1)

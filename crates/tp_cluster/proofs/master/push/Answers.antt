@@ -1,0 +1,29 @@
+use Rattle.std.proofs.Common.{◌∙◌, refl, sym}
+use Rattle.tp_model.specs.Words.actor
+use Rattle.tp_model.specs.Words.step
+use Rattle.tp_cluster.specs.Offices.Held.{OfMaster}
+use Rattle.tp_cluster.specs.Runs.{state_at}
+use Rattle.tp_cluster.proofs.MeetingLemmas.{held_later}
+use Rattle.tp_cluster.proofs.StepLemmas.{push_by}
+use Rattle.tp_cluster.proofs.master.push.Goals as goal
+
+pub finish-requires-clause-may : goal.finish-requires-clause-may
+finish-requires-clause-may g c =
+    let sc = g.B.Site.about.scenario in
+    let who = c.office.inside.actor in
+    let held = OfMaster c.office.inside.state in
+    let v = c.args.pass.now.view in
+    let met = c.meet.new.pass in
+    let m = c.meet.ensures.met who held c.office.invariant.1 in
+    record {
+      held = held;
+      view = v;
+      met_is = m;
+      may = λ log f. push_by sc (state_at sc log) who c.office.inside.state c.args.admin c.args.server c.in-Ok.act (held_later sc g.B.Site.table who held v met m log f) c.requires.exists c.in-Ok.ensures.0 c.in-Ok.ensures.1;
+    }
+
+pub returns-in-Ok-clause-answer : goal.returns-in-Ok-clause-answer
+returns-in-Ok-clause-answer g c =
+    let who = c.office.inside.actor in
+    let held = OfMaster c.office.inside.state in
+    c.finish.ensures.answer c.args.pass.now held c.requires.ready (c.meet.ensures.met who held c.office.invariant.1)

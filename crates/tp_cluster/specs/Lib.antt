@@ -1,0 +1,4 @@
+pub mod Runs
+pub mod Offices
+pub mod Calls
+pub mod mirrors

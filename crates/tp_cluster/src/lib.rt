@@ -1,0 +1,48 @@
+//! The cluster of a scenario with each actor behind a lock of its own, over a history that many threads extend.
+//!
+//! The history is a wire's (`tp_wire`), whose law says that it is a run of the scenario's machine (`specs/Runs`): each step
+//! names what exists, is not refused by the machine after the steps before it, and its entry tells what happens in it and
+//! what is sent. So every beginning that a pass has seen is a run. Behind an actor's lock stands what the machine has of
+//! the actor, and the pass with the actor's part of the history (`specs/Offices`). Under it a call takes that pass in, acts
+//! by the machine's own acts, posts the step, and gives the pass back. It takes one actor's lock, and then the book's.
+//!
+//! What is promised, with the contract that carries it:
+//!
+//! - A cluster is opened with an empty history, each actor as the machine opens it, and a pass for each caller, of one part
+//!   whose number follows those of the actors (`Cluster::opened`)
+//! - Where a call answers a place, its step stands there, behind all that its pass had seen or been told; the pass has seen
+//!   the history up to it and with it, which is a run, and the step is the last one of the caller's part (`answer` of
+//!   `Cluster::tick`, `revoke`, `push` and `deliver`: `IsDone`)
+//! - A refusal is the machine's, after the whole history that the pass has then seen, which is no shorter than it had been
+//!   told (`answer`: `IsTurned`)
+//! - After NoMemory the pass is given up, and then answers nothing else (`memory`, and `was_live` of both). Other passes go
+//!   on, but the actor whose lock was held may be lost: its calls then answer NoMemory
+//! - A look answers as a wire's (`Cluster::seen`)
+//! - A closed cluster is the world of its history's steps, without any comparison, and the wire's closing tells of all passes
+//!   (`Cluster::close`)
+//!
+//! So far there are the calls to move the clock, to revoke, to push, and to deliver a mail to a server or an office. A
+//! delivery to a coordinator answers NoMemory.
+//!
+//! Not claimed: that a call which takes a lock returns.
+#![tactic(auto)]
+
+mod authority;
+mod closing;
+mod cluster;
+mod error;
+mod gate;
+mod master;
+mod meeting;
+mod office;
+mod opening;
+mod pass;
+mod plan;
+mod servers;
+
+pub use cluster::Cluster;
+pub use error::ClusterError;
+pub use gate::Gate2;
+pub use opening::ClusterOpening;
+pub use pass::Pass;
+pub use plan::{Plan, Runs};

@@ -1,0 +1,133 @@
+//! What the master does under its lock.
+ghost use Rattle.std.specs.Prelude.{◌≡◌, Some, [], slice_get, IfOk};
+ghost use Rattle.tp_machine.specs.Named.{IsAdmin, IsServer};
+ghost use Rattle.tp_model.specs.Words.actor;
+ghost use Rattle.tp_model.specs.Words.step;
+ghost use Rattle.tp_offices.specs.Master as rows;
+ghost use Rattle.tp_wire.specs.Entries.{mails_in};
+ghost use Rattle.tp_cluster.specs.Calls.{IsAnswer, IsReady};
+
+use crate::error::ClusterError;
+use crate::meeting::{ClusterWire, Left, finish, meet};
+use crate::office::Office;
+use crate::plan::Plan;
+use std::sync::Wait;
+use tp_machine::{Act, Spares};
+use tp_offices::Master;
+use tp_types::{AdminId, List, Mail, NoMemory, Reaction, ServerId, Step};
+use tp_wire as wire;
+use tp_wire::Site;
+
+/// What the master sends as it pushes a version.
+fn pushed(
+    spares: &mut Spares,
+    state: &Master,
+    admin: AdminId,
+    server: ServerId,
+) -> Result<Act, NoMemory>
+    ensures { IfOk result (λ act. (act.happened ≡ []) × (act.letters ≡ (rows.pushes state.now admin server).reaction.letters)) }
+{
+    let Reaction { append: _, letters } = state.push(&mut spares.letters, admin, server)?;
+    Ok(Act {
+        happened: List::new(spares.alloc()),
+        letters,
+    })
+}
+
+/// What the master sends on a mail.
+fn received(spares: &mut Spares, state: &Master, mail: &Mail) -> Result<Act, NoMemory>
+    ensures { IfOk result (λ act. (act.happened ≡ []) × (act.letters ≡ (rows.master_row state.now mail.now).reaction.letters)) }
+{
+    let Reaction { append: _, letters } = state.receive(&mut spares.letters, mail)?;
+    Ok(Act {
+        happened: List::new(spares.alloc()),
+        letters,
+    })
+}
+
+/// Pushes the newest version of an administrator's policy to a server.
+pub fn push<B: Site<Plan>, R: Wait>(
+    rt: &R,
+    wire: &ClusterWire<B>,
+    pass: &mut wire::Pass,
+    office: Office<Master, B>,
+    admin: AdminId,
+    server: ServerId,
+) -> Left<Master, B>
+    requires ready { IsReady B.about.scenario B.table pass.old }
+    requires exists { IsAdmin B.about.scenario admin × IsServer B.about.scenario server }
+    ensures site { pass.new.table ≡ B.table }
+    ensures answer { IsAnswer B.about.scenario pass.old (step.Push admin server) result.1 pass.new }
+{
+    let Office {
+        number,
+        actor,
+        state,
+        pass: kept,
+        mut spares,
+        site: _,
+    } = office;
+    meet(wire, pass, kept);
+    match pushed(&mut spares, &state, admin, server) {
+        Ok(act) => finish(
+            rt,
+            wire,
+            pass,
+            number,
+            actor,
+            state,
+            spares,
+            Step::Push { admin, server },
+            act,
+        ),
+        Err(NoMemory) => {
+            drop(state);
+            drop(spares);
+            (None, Err(ClusterError::NoMemory))
+        }
+    }
+}
+
+/// The master receives a mail.
+pub fn deliver<B: Site<Plan>, R: Wait>(
+    rt: &R,
+    wire: &ClusterWire<B>,
+    pass: &mut wire::Pass,
+    office: Office<Master, B>,
+    given: u64,
+    mail: &Mail,
+) -> Left<Master, B>
+    requires ready { IsReady B.about.scenario B.table pass.old }
+    requires sent { slice_get (mails_in pass.old.view.seen) given ≡ Some mail.now }
+    requires to { mail.now.letter.to ≡ actor.Master }
+    ensures site { pass.new.table ≡ B.table }
+    ensures answer { IsAnswer B.about.scenario pass.old (step.Deliver given) result.1 pass.new }
+{
+    let Office {
+        number,
+        actor,
+        state,
+        pass: kept,
+        mut spares,
+        site: _,
+    } = office;
+    meet(wire, pass, kept);
+    match received(&mut spares, &state, mail) {
+        Ok(act) => finish(
+            rt,
+            wire,
+            pass,
+            number,
+            actor,
+            state,
+            spares,
+            Step::Deliver { mail: given },
+            act,
+        ),
+        Err(NoMemory) => {
+            drop(state);
+            drop(spares);
+            (None, Err(ClusterError::NoMemory))
+        }
+    }
+}
