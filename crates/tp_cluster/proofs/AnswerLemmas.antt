@@ -17,7 +17,7 @@ use Rattle.tp_wire.specs.declared.book.Lookup.TheVariants as lookup
 use Rattle.tp_wire.specs.Calls.{IsLookup, KeepsParts, SeesAll}
 use Rattle.tp_wire.specs.Entries.{mails_in}
 use Rattle.tp_wire.specs.History.{StartsWith, Lawful, numbers_of}
-use Rattle.tp_wire.specs.Passes.{Known, moved}
+use Rattle.tp_wire.specs.Passes.{Known, moved, with_mail}
 use Rattle.tp_wire.proofs.ListLemmas.{starts_trans}
 use Rattle.tp_cluster.specs.declared.error.ClusterError.{ClusterError}
 use Rattle.tp_cluster.specs.declared.error.ClusterError.TheVariants as cluster
@@ -28,6 +28,13 @@ use Rattle.tp_cluster.proofs.RunLemmas.{runs}
 -- a caller's pass is one as long as its parts stay
 pub same_caller : (sc : Scenario) (v w : View) → w.parts ≡ v.parts → IsCaller sc v → IsCaller sc w
 same_caller sc v w same caller = record { part = caller.part; one = same ∙ caller.one; number = caller.number }
+
+-- also where its part took a mail
+pub taking_caller : (sc : Scenario) (v w : View) (mail : ℕ) → w.parts ≡ map (with_mail mail) v.parts → IsCaller sc v → IsCaller sc w
+taking_caller sc v w mail same caller = record { part = with_mail mail caller.part; one = same ∙ ap (map (with_mail mail)) caller.one; number = caller.number }
+
+pub one_part : (sc : Scenario) (v : View) → IsCaller sc v → length v.parts ≡ 1
+one_part sc v caller = ap (length {A = Part}) caller.one
 
 pub still_ready : (sc : Scenario) (table : TableId) (old new : Known) → IsReady sc table old → new.table ≡ old.table → new.given_up ≡ false → new.view.parts ≡ old.view.parts → IsReady sc table new
 still_ready sc table old new ready site live parts = record { site = site ∙ ready.site; live = live; caller = same_caller sc old.view new.view parts ready.caller }

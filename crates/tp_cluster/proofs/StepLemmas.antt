@@ -1,5 +1,5 @@
 -- The steps that callers ask for are the machine's, wherever in a run they take place.
-use Rattle.std.proofs.Common.{◌≡◌, ℕ, List, [], ◌∷◌, ◌++◌, length, refl, sym, ap, ◌∙◌, subst}
+use Rattle.std.proofs.Common.{◌≡◌, ℕ, suc, List, [], ◌∷◌, ◌++◌, length, refl, sym, ap, ◌∙◌, subst}
 use Rattle.std.proofs.lemmas.Option.{slice_get_within}
 use Rattle.std.specs.Option.{option_map_or, option_or}
 use Rattle.std.specs.Prelude.{Option, Some, None, Bool, true, false, option_map, slice_get, if◌then◌else◌}
@@ -7,7 +7,7 @@ use Rattle.tp_coord.specs.State.{Coordinator}
 use Rattle.tp_model.specs.Words.actor
 use Rattle.tp_model.specs.Words.step
 use Rattle.tp_model.specs.Words.what
-use Rattle.tp_model.specs.Words.{Actor, AdminId, CredId, Letter, Record, Scenario, ServerId, TxnId, What}
+use Rattle.tp_model.specs.Words.{Actor, AdminId, CredId, Letter, Record, Scenario, ServerId, Step, TxnId, What}
 use Rattle.tp_offices.specs.Authority as office
 use Rattle.tp_offices.specs.Master as master
 use Rattle.tp_offices.specs.declared.authority.Authority.{Authority}
@@ -24,14 +24,20 @@ use Rattle.tp_machine.specs.Named.{IsAdmin, IsCred, IsServer, IsTxn}
 use Rattle.tp_machine.specs.Parts as parts
 use Rattle.tp_machine.proofs.basics.Fits.{put_has}
 use Rattle.tp_wire.specs.declared.view.Entry.{Entry}
+use Rattle.tp_wire.specs.Entries.{steps_in}
 use Rattle.tp_wire.specs.History.{Lawful}
 use Rattle.tp_cluster.specs.Offices.{Held, held_at}
 use Rattle.tp_cluster.specs.Offices.Held.{OfCoordinator, OfAuthority, OfMaster}
 use Rattle.tp_cluster.specs.Runs.{IsNext, state_at}
 use Rattle.tp_cluster.specs.mirrors.Meetings.{IsActed, untimed}
+use Rattle.tp_cluster.proofs.RunLemmas.{runs}
 use Rattle.tp_cluster.proofs.RowLemmas.{authority_of, by_name, coordinator_of, fits_after, is_authority, is_master, master_of}
 
 -- ---- submissions
+
+steps_count : (log : List Entry) → length (steps_in log) ≡ length log
+steps_count [] = refl
+steps_count (e ∷ log) = ap (λ (n : ℕ). suc n) (steps_count log)
 
 -- the move of a submission is that of its begin, and the place
 abbrev placed_move : ℕ → PartMove Coordinator → PartMove Coordinator
@@ -67,6 +73,17 @@ submit_acted sc w txn part mid act has idle exists did =
           ∙ (ap (option_map OfCoordinator) (set_here w.actors.coordinators txn.0 (placed_part (length w.steps) begun.part) (slice_get_within w.actors.coordinators txn.0 part here))
           ∙ ap (λ (p : parts.Part Coordinator). Some (OfCoordinator (placed_part (length w.steps) p))) (sym did.part_is));
     }
+
+-- wherever it takes place: its age is how many steps were done before it
+pub submit_by : (sc : Scenario) (log : List Entry) (who : Actor) (txn : TxnId) (part mid : parts.Part Coordinator) (act : Act) → Lawful (IsNext sc) log → who ≡ actor.Coordinator txn
+    → held_at (state_at sc log).actors who ≡ Some (OfCoordinator part) → is_part_submitted part.up ≡ false → IsTxn sc txn → Acts (coordinator_begins sc part txn) mid act
+    → IsActed sc (state_at sc log) (step.Submit txn) who (OfCoordinator (placed_part (length log) mid)) act.happened act.letters
+submit_by sc log who txn part mid act lawful is has idle exists did =
+    let w = state_at sc log in
+    let age : length w.steps ≡ length log = ap (length {A = Step}) (runs sc log lawful).steps ∙ steps_count log in
+    by_name sc w (step.Submit txn) who (actor.Coordinator txn) (OfCoordinator part) (OfCoordinator (placed_part (length log) mid)) act.happened act.letters is has
+    (λ here. subst (λ (n : ℕ). IsActed sc w (step.Submit txn) (actor.Coordinator txn) (OfCoordinator (placed_part n mid)) act.happened act.letters) age
+    (submit_acted sc w txn part mid act here idle exists did))
 
 pub submit_refused : (w : State) (txn : TxnId) (part : parts.Part Coordinator) → held_at w.actors (actor.Coordinator txn) ≡ Some (OfCoordinator part) → is_part_submitted part.up ≡ true
     → refusal w (step.Submit txn) ≡ Some (error.AlreadySubmitted txn)

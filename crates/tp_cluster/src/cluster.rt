@@ -1,11 +1,12 @@
 //! The cluster and its calls.
-ghost use Rattle.std.specs.Prelude.{◌≡◌, ◌+◌, ◌≤◌, Some, false, true, slice_get, IfOk, OnOk, IsErrOf};
+ghost use Rattle.std.specs.Prelude.{◌≡◌, ◌+◌, ◌≤◌, Some, false, true, slice_get, IfNone, IfOk, IfSome, OnErr, OnOk, IsErrOf};
 ghost use Rattle.tp_types.specs.Each.{Each};
 ghost use Rattle.tp_model.specs.Words.actor;
 ghost use Rattle.tp_model.specs.Words.step;
+ghost use Rattle.tp_wire.specs.Calls.{IsCleared, IsTaken, SeesAll};
 ghost use Rattle.tp_wire.specs.Entries.{mails_in};
 ghost use Rattle.tp_wire.specs.Passes.{Known, IsLook, fresh_passes, views_of};
-ghost use Rattle.tp_machine.specs.Named.{IsAdmin, IsCred, IsServer};
+ghost use Rattle.tp_machine.specs.Named.{IsAdmin, IsCred, IsServer, IsTxn};
 ghost use Rattle.tp_cluster.specs.Calls.{IsAnswer, IsCaller, IsClosedWorld, IsReady};
 ghost use Rattle.tp_cluster.specs.Runs.{IsNext, actors_of};
 
@@ -16,12 +17,12 @@ use crate::meeting::ClusterWire;
 use crate::opening::{Actors, ClusterOpening, deal, passes_of};
 use crate::pass::Pass;
 use crate::plan::Plan;
-use crate::{authority, master, servers};
+use crate::{authority, coordinators, master, servers};
 use std::alloc::Global;
 use std::marker::Model;
 use std::sync::Wait;
 use tp_machine::{StepError, World};
-use tp_types::{Actor, AdminId, CredId, List, Mail, NoMemory, Place, ServerId};
+use tp_types::{Actor, AdminId, CredId, List, Mail, NoMemory, Place, ServerId, TxnId};
 use tp_wire as wire;
 use tp_wire::{Lookup, Site, Wire};
 
@@ -75,6 +76,31 @@ impl<B: Site<Plan>> Cluster<B> {
         ensures look { IsLook (IsNext B.about.scenario) (actors_of B.about.scenario) result pass.old.view pass.new.view }
     {
         self.wire.look(&mut pass.inner)
+    }
+
+    /// Takes the oldest mail that no pass has taken, or answers None where each that the pass has then seen sent is taken.
+    pub fn take<R: Wait>(&self, rt: &R, pass: &mut Pass) -> Result<Option<u64>, NoMemory>
+        requires site { pass.old.table ≡ B.table }
+        requires caller { pass.old.given_up ≡ false → IsCaller B.about.scenario pass.old.view }
+        ensures site { pass.new.table ≡ B.table }
+        ensures seen { OnOk result (SeesAll (IsNext B.about.scenario) (actors_of B.about.scenario) pass.old.view pass.new.view) }
+        ensures some { IfOk result (λ found. IfSome found (λ mail. IsTaken pass.old.view mail pass.new.view)) }
+        ensures none { IfOk result (λ found. IfNone found (IsCleared pass.old.view pass.new.view)) }
+        ensures live { OnOk result ((pass.old.given_up ≡ false) × (pass.new.given_up ≡ false)) }
+        ensures caller { OnOk result (IsCaller B.about.scenario pass.new.view) }
+        ensures memory { OnErr result (pass.new.given_up ≡ true) }
+    {
+        if pass.given_up {
+            return Err(NoMemory);
+        }
+        match self.wire.take(rt, &mut pass.inner) {
+            Ok(Some(mail)) => Ok(Some(mail)),
+            Ok(None) => Ok(None),
+            Err(NoMemory) => {
+                pass.given_up = true;
+                Err(NoMemory)
+            }
+        }
     }
 
     /// Moves the clock. Answers the place of the step.
@@ -153,6 +179,143 @@ impl<B: Site<Plan>> Cluster<B> {
         answer
     }
 
+    /// Submits a transaction. Answers the place of the step, which is its age.
+    pub fn submit<R: Wait>(
+        &self,
+        rt: &R,
+        pass: &mut Pass,
+        txn: TxnId,
+    ) -> Result<Place, ClusterError>
+        requires site { pass.old.table ≡ B.table }
+        requires caller { pass.old.given_up ≡ false → IsCaller B.about.scenario pass.old.view }
+        requires exists { IsTxn B.about.scenario txn }
+        ensures site { pass.new.table ≡ B.table }
+        ensures answer { IsAnswer B.about.scenario pass.old (step.Submit txn) result pass.new }
+        ensures memory { IsErrOf result ClusterError.NoMemory → pass.new.given_up ≡ true }
+    {
+        if pass.given_up {
+            return Err(ClusterError::NoMemory);
+        }
+        let answer = self.submits(rt, &mut pass.inner, txn);
+        if let Err(ClusterError::NoMemory) = answer {
+            pass.given_up = true;
+        }
+        answer
+    }
+
+    fn submits<R: Wait>(
+        &self,
+        rt: &R,
+        pass: &mut wire::Pass,
+        txn: TxnId,
+    ) -> Result<Place, ClusterError>
+        requires ready { IsReady B.about.scenario B.table pass.old }
+        requires exists { IsTxn B.about.scenario txn }
+        ensures site { pass.new.table ≡ B.table }
+        ensures answer { IsAnswer B.about.scenario pass.old (step.Submit txn) result pass.new }
+    {
+        // each coordinator stands at its number: these branches no run takes
+        let Some(lock) = self.actors.coordinators.get(txn.0 as usize) else {
+            return Err(ClusterError::NoMemory);
+        };
+        let mut guard = lock.lock(rt);
+        let Some(office) = guard.take() else {
+            return Err(ClusterError::NoMemory);
+        };
+        let scenario = &self.plan.scenario;
+        let (left, answer) = coordinators::submit(rt, &self.wire, scenario, pass, office, txn);
+        *guard = left;
+        answer
+    }
+
+    /// A transaction's timer fires. Answers the place of the step.
+    pub fn timer<R: Wait>(&self, rt: &R, pass: &mut Pass, txn: TxnId) -> Result<Place, ClusterError>
+        requires site { pass.old.table ≡ B.table }
+        requires caller { pass.old.given_up ≡ false → IsCaller B.about.scenario pass.old.view }
+        requires exists { IsTxn B.about.scenario txn }
+        ensures site { pass.new.table ≡ B.table }
+        ensures answer { IsAnswer B.about.scenario pass.old (step.Timer txn) result pass.new }
+        ensures memory { IsErrOf result ClusterError.NoMemory → pass.new.given_up ≡ true }
+    {
+        if pass.given_up {
+            return Err(ClusterError::NoMemory);
+        }
+        let answer = self.fires(rt, &mut pass.inner, txn);
+        if let Err(ClusterError::NoMemory) = answer {
+            pass.given_up = true;
+        }
+        answer
+    }
+
+    fn fires<R: Wait>(
+        &self,
+        rt: &R,
+        pass: &mut wire::Pass,
+        txn: TxnId,
+    ) -> Result<Place, ClusterError>
+        requires ready { IsReady B.about.scenario B.table pass.old }
+        requires exists { IsTxn B.about.scenario txn }
+        ensures site { pass.new.table ≡ B.table }
+        ensures answer { IsAnswer B.about.scenario pass.old (step.Timer txn) result pass.new }
+    {
+        // each coordinator stands at its number: these branches no run takes
+        let Some(lock) = self.actors.coordinators.get(txn.0 as usize) else {
+            return Err(ClusterError::NoMemory);
+        };
+        let mut guard = lock.lock(rt);
+        let Some(office) = guard.take() else {
+            return Err(ClusterError::NoMemory);
+        };
+        let scenario = &self.plan.scenario;
+        let (left, answer) = coordinators::timer(rt, &self.wire, scenario, pass, office, txn);
+        *guard = left;
+        answer
+    }
+
+    /// Publishes the next version of an administrator's policy. Answers the place of the step.
+    pub fn publish<R: Wait>(
+        &self,
+        rt: &R,
+        pass: &mut Pass,
+        admin: AdminId,
+    ) -> Result<Place, ClusterError>
+        requires site { pass.old.table ≡ B.table }
+        requires caller { pass.old.given_up ≡ false → IsCaller B.about.scenario pass.old.view }
+        requires exists { IsAdmin B.about.scenario admin }
+        ensures site { pass.new.table ≡ B.table }
+        ensures answer { IsAnswer B.about.scenario pass.old (step.Publish admin) result pass.new }
+        ensures memory { IsErrOf result ClusterError.NoMemory → pass.new.given_up ≡ true }
+    {
+        if pass.given_up {
+            return Err(ClusterError::NoMemory);
+        }
+        let answer = self.publishes(rt, &mut pass.inner, admin);
+        if let Err(ClusterError::NoMemory) = answer {
+            pass.given_up = true;
+        }
+        answer
+    }
+
+    fn publishes<R: Wait>(
+        &self,
+        rt: &R,
+        pass: &mut wire::Pass,
+        admin: AdminId,
+    ) -> Result<Place, ClusterError>
+        requires ready { IsReady B.about.scenario B.table pass.old }
+        requires exists { IsAdmin B.about.scenario admin }
+        ensures site { pass.new.table ≡ B.table }
+        ensures answer { IsAnswer B.about.scenario pass.old (step.Publish admin) result pass.new }
+    {
+        let mut guard = self.actors.master.lock(rt);
+        let Some(office) = guard.take() else {
+            return Err(ClusterError::NoMemory);
+        };
+        let (left, answer) = master::publish(rt, &self.wire, pass, office, admin);
+        *guard = left;
+        answer
+    }
+
     /// Pushes the newest version of an administrator's policy to a server. Answers the place of the step.
     pub fn push<R: Wait>(
         &self,
@@ -195,6 +358,36 @@ impl<B: Site<Plan>> Cluster<B> {
             return Err(ClusterError::NoMemory);
         };
         let (left, answer) = master::push(rt, &self.wire, pass, office, admin, server);
+        *guard = left;
+        answer
+    }
+
+    fn to_coordinator<R: Wait>(
+        &self,
+        rt: &R,
+        pass: &mut wire::Pass,
+        txn: TxnId,
+        number: u64,
+        mail: &Mail,
+    ) -> Result<Place, ClusterError>
+        requires ready { IsReady B.about.scenario B.table pass.old }
+        requires sent { slice_get (mails_in pass.old.view.seen) number ≡ Some mail.now }
+        requires to { mail.now.letter.to ≡ actor.Coordinator txn }
+        ensures site { pass.new.table ≡ B.table }
+        ensures answer { IsAnswer B.about.scenario pass.old (step.Deliver number) result pass.new }
+    {
+        // no mail is sent to a coordinator that is not there, and each stands at its number: these branches no run takes
+        let Some(lock) = self.actors.coordinators.get(txn.0 as usize) else {
+            return Err(ClusterError::NoMemory);
+        };
+        let mut guard = lock.lock(rt);
+        let Some(office) = guard.take() else {
+            return Err(ClusterError::NoMemory);
+        };
+        let scenario = &self.plan.scenario;
+        let (left, answer) = coordinators::deliver(
+            rt, &self.wire, scenario, pass, office, txn, number, mail,
+        );
         *guard = left;
         answer
     }
@@ -310,7 +503,7 @@ impl<B: Site<Plan>> Cluster<B> {
             Actor::Server(at) => self.to_server(rt, pass, at, number, mail, gate),
             Actor::Authority => self.to_authority(rt, pass, number, mail),
             Actor::Master => self.to_master(rt, pass, number, mail),
-            Actor::Coordinator(_) => Err(ClusterError::NoMemory),
+            Actor::Coordinator(txn) => self.to_coordinator(rt, pass, txn, number, mail),
         }
     }
 

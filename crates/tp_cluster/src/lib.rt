@@ -12,17 +12,15 @@
 //!   whose number follows those of the actors (`Cluster::opened`)
 //! - Where a call answers a place, its step stands there, behind all that its pass had seen or been told; the pass has seen
 //!   the history up to it and with it, which is a run, and the step is the last one of the caller's part (`answer` of
-//!   `Cluster::tick`, `revoke`, `push` and `deliver`: `IsDone`)
+//!   `Cluster::submit`, `tick`, `revoke`, `publish`, `push`, `timer` and `deliver`: `IsDone`)
 //! - A refusal is the machine's, after the whole history that the pass has then seen, which is no shorter than it had been
 //!   told (`answer`: `IsTurned`)
 //! - After NoMemory the pass is given up, and then answers nothing else (`memory`, and `was_live` of both). Other passes go
 //!   on, but the actor whose lock was held may be lost: its calls then answer NoMemory
-//! - A look answers as a wire's (`Cluster::seen`)
+//! - A look and a take answer as a wire's (`Cluster::seen`; `take`: `seen`, `some`, `none`), and a take leaves the caller's
+//!   pass one (`caller`)
 //! - A closed cluster is the world of its history's steps, without any comparison, and the wire's closing tells of all passes
 //!   (`Cluster::close`)
-//!
-//! So far there are the calls to move the clock, to revoke, to push, and to deliver a mail to a server or an office. A
-//! delivery to a coordinator answers NoMemory.
 //!
 //! Not claimed: that a call which takes a lock returns.
 #![tactic(auto)]
@@ -30,6 +28,7 @@
 mod authority;
 mod closing;
 mod cluster;
+mod coordinators;
 mod error;
 mod gate;
 mod master;

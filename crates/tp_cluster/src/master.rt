@@ -1,22 +1,36 @@
 //! What the master does under its lock.
-ghost use Rattle.std.specs.Prelude.{◌≡◌, Some, [], slice_get, IfOk};
+ghost use Rattle.std.specs.Prelude.{◌≡◌, ◌∷◌, Some, [], true, slice_get, IfOk};
 ghost use Rattle.tp_machine.specs.Named.{IsAdmin, IsServer};
 ghost use Rattle.tp_model.specs.Words.actor;
 ghost use Rattle.tp_model.specs.Words.step;
+ghost use Rattle.tp_model.specs.Words.what;
 ghost use Rattle.tp_offices.specs.Master as rows;
 ghost use Rattle.tp_wire.specs.Entries.{mails_in};
 ghost use Rattle.tp_cluster.specs.Calls.{IsAnswer, IsReady};
 
 use crate::error::ClusterError;
-use crate::meeting::{ClusterWire, Left, finish, meet};
+use crate::meeting::{ClusterWire, Left, finish, meet, refuse};
 use crate::office::Office;
 use crate::plan::Plan;
 use std::sync::Wait;
-use tp_machine::{Act, Spares};
-use tp_offices::Master;
-use tp_types::{AdminId, List, Mail, NoMemory, Reaction, ServerId, Step};
+use tp_machine::{Act, Spares, StepError, alone};
+use tp_offices::{Master, NoMore};
+use tp_types::{AdminId, List, Mail, NoMemory, Reaction, ServerId, Step, What};
 use tp_wire as wire;
 use tp_wire::Site;
+
+/// What happens as the master publishes the next version.
+fn published(spares: &mut Spares, state: &mut Master, admin: AdminId) -> Result<Act, NoMemory>
+    requires { rows.has_more state.old admin ≡ true }
+    ensures state { IfOk result (λ act. state.new ≡ rows.after_publication admin state.old) }
+    ensures act { IfOk result (λ act.
+        act ≡ record { happened = what.Published admin (rows.next_of state.old admin) ∷ []; letters = [] }) }
+{
+    match state.publish(admin) {
+        Err(NoMore) => unreachable!(),
+        Ok(version) => alone(&mut spares.facts, What::Published(admin, version)),
+    }
+}
 
 /// What the master sends as it pushes a version.
 fn pushed(
@@ -43,6 +57,55 @@ fn received(spares: &mut Spares, state: &Master, mail: &Mail) -> Result<Act, NoM
         happened: List::new(spares.alloc()),
         letters,
     })
+}
+
+/// Publishes the next version of an administrator's policy.
+pub fn publish<B: Site<Plan>, R: Wait>(
+    rt: &R,
+    wire: &ClusterWire<B>,
+    pass: &mut wire::Pass,
+    office: Office<Master, B>,
+    admin: AdminId,
+) -> Left<Master, B>
+    requires ready { IsReady B.about.scenario B.table pass.old }
+    requires exists { IsAdmin B.about.scenario admin }
+    ensures site { pass.new.table ≡ B.table }
+    ensures answer { IsAnswer B.about.scenario pass.old (step.Publish admin) result.1 pass.new }
+{
+    let Office {
+        number,
+        actor,
+        mut state,
+        pass: kept,
+        mut spares,
+        site: _,
+    } = office;
+    meet(wire, pass, kept);
+    match state.has_more(admin) {
+        true => {}
+        false => {
+            let why = StepError::NoMore { admin };
+            return refuse(rt, wire, pass, number, actor, state, spares, why);
+        }
+    }
+    match published(&mut spares, &mut state, admin) {
+        Ok(act) => finish(
+            rt,
+            wire,
+            pass,
+            number,
+            actor,
+            state,
+            spares,
+            Step::Publish { admin },
+            act,
+        ),
+        Err(NoMemory) => {
+            drop(state);
+            drop(spares);
+            (None, Err(ClusterError::NoMemory))
+        }
+    }
 }
 
 /// Pushes the newest version of an administrator's policy to a server.

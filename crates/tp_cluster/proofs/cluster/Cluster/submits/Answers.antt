@@ -1,0 +1,10 @@
+use Rattle.std.proofs.Common.{ap}
+use Rattle.tp_cluster.specs.declared.plan.Plan.{Plan}
+use Rattle.tp_cluster.proofs.OpeningLemmas.{plan_fits}
+use Rattle.tp_cluster.proofs.cluster.Cluster.submits.Goals as goal
+
+pub submit-left-requires-clause-about : goal.submit-left-requires-clause-about
+submit-left-requires-clause-about g c = ap (λ (p : Plan). p.scenario) c.self.invariant.0
+
+pub submit-left-requires-clause-fit : goal.submit-left-requires-clause-fit
+submit-left-requires-clause-fit g c = plan_fits c.self.inside.plan g.B.Site.about c.self.invariant.0 c.self.invariant.1
