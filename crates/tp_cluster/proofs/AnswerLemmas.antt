@@ -5,6 +5,7 @@ use Rattle.std.specs.Prelude.{Option, Some, None, Result, Ok, Err, Bool, true, f
 use Rattle.atomic_table.specs.Seated.{TableId}
 use Rattle.tp_model.specs.Words.step
 use Rattle.tp_model.specs.Words.{Mail, Scenario, Step}
+use Rattle.tp_types.specs.Each.{Each}
 use Rattle.tp_types.proofs.EachLemmas.{missing}
 use Rattle.tp_machine.specs.declared.error.StepError.{StepError}
 use Rattle.tp_machine.specs.declared.error.StepError.TheVariants as error
@@ -16,7 +17,7 @@ use Rattle.tp_wire.specs.declared.book.Lookup.{Lookup}
 use Rattle.tp_wire.specs.declared.book.Lookup.TheVariants as lookup
 use Rattle.tp_wire.specs.Calls.{IsLookup, KeepsParts, SeesAll}
 use Rattle.tp_wire.specs.Entries.{mails_in}
-use Rattle.tp_wire.specs.History.{StartsWith, Lawful, numbers_of}
+use Rattle.tp_wire.specs.History.{StartsWith, IsPart, Lawful, numbers_of}
 use Rattle.tp_wire.specs.Passes.{Known, moved, with_mail}
 use Rattle.tp_wire.proofs.ListLemmas.{starts_trans}
 use Rattle.tp_cluster.specs.declared.error.ClusterError.{ClusterError}
@@ -56,6 +57,7 @@ answer_since sc table old mid new taken (Ok place) ready all keeps answer =
         lawful = o.lawful;
         begins = starts_trans o.before mid.view.seen old.view.seen o.begins all.begins;
         told = let t = all.told in let u = all.told_is in let w = o.told in omega (arith, t, u, w);
+        current = subst (Each (IsPart o.before)) keeps.parts_are o.current;
         actor = o.actor;
         numbers = o.numbers ∙ ap (λ (ps : List Part). numbers_of ps ++ o.actor ∷ []) keeps.parts_are;
         parts = o.parts ∙ ap (map (moved new.view.seen)) keeps.parts_are;

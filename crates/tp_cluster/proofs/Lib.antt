@@ -4,6 +4,7 @@ pub mod RowLemmas
 pub mod ReplayLemmas
 pub mod DeliveryLemmas
 pub mod OpeningLemmas
+pub mod HomeLemmas
 pub mod AnswerLemmas
 pub mod ClosingLemmas
 pub mod StepLemmas

@@ -187,6 +187,7 @@ module _ (sc : Scenario) (table : TableId) (who : Actor) (held : Held) (v : View
           lawful = subst (Lawful (IsNext sc)) (sym left_seen) p.lawful;
           begins = starts_trans p.before met.view.seen v.seen p.begins m.begins;
           told = let t = p.told in let u = m.told in let at = p.place_is in omega (arith, t, u, at);
+          current = subst (Each (IsPart p.before)) (sym m.one) (own_current p.before found, tt);
           actor = number_of sc who;
           numbers = numbers_are ∙ ap (λ (ps : List Part). numbers_of ps ++ number_of sc who ∷ []) (sym m.one);
           parts = left_own ∙ (ap (λ (l : List Entry). moved l m.own ∷ []) (sym left_seen) ∙ ap (map (moved left.view.seen)) (sym m.one));

@@ -1,6 +1,6 @@
 -- The world in which a lawful history is done again.
 use Rattle.std.proofs.Common.{◌≡◌, List, [], ◌∷◌, ◌++◌, refl, sym, ap, ◌∙◌, subst, append_assoc}
-use Rattle.std.specs.Prelude.{None, false}
+use Rattle.std.specs.Prelude.{None, Some, false}
 use Rattle.tp_model.specs.Words.{Scenario, Step}
 use Rattle.tp_machine.specs.declared.error.StepError.{StepError}
 use Rattle.tp_machine.specs.Machine.{Machine, after, after_step, machine_after, opening, refusal}
@@ -74,3 +74,12 @@ so_far_next sc steps done rest left taken world new i is did =
       live = ap (λ (w : WorldView). w.given_up) did.now ∙ i.live;
       machine = now ∙ sym (after_steps-snoc sc (opening sc) done taken ∙ allowed_after sc (after sc done) taken (refusal (after sc done).state taken) ok);
     }
+
+-- a step that is allowed is not refused
+pub refused_no_step : (sc : Scenario) (done : List Step) (taken : Step) (world new : WorldView) (why : StepError) → world.machine ≡ after sc done → refusal (after sc done).state taken ≡ None
+    → Refuses world new taken why → ⊥
+refused_no_step sc done taken world new why is ok refused =
+    let none : refusal world.machine.state taken ≡ None = subst (λ (m : Machine). refusal m.state taken ≡ None) (sym is) ok in
+    let some = refused.reason in
+    let both : Some why ≡ None = sym some ∙ none in
+    absurd (cc)

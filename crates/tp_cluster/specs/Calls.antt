@@ -11,9 +11,9 @@ use Rattle.tp_wire.specs.declared.book.Book.{Book}
 use Rattle.tp_wire.specs.declared.view.Entry.{Entry}
 use Rattle.tp_wire.specs.declared.view.Part.{Part}
 use Rattle.tp_wire.specs.declared.view.View.{View}
-use Rattle.tp_wire.specs.Closing.{IsClosed}
-use Rattle.tp_wire.specs.Entries.{steps_in}
-use Rattle.tp_wire.specs.History.{StartsWith, Lawful, numbers_of}
+use Rattle.tp_types.specs.Each.{Each}
+use Rattle.tp_wire.specs.Closing.{HasParts, IsClosed, parts_of}
+use Rattle.tp_wire.specs.History.{StartsWith, IsPart, Lawful, numbers_of}
 use Rattle.tp_wire.specs.Passes.{Known, moved}
 use Rattle.tp_cluster.specs.declared.error.ClusterError.{ClusterError}
 use Rattle.tp_cluster.specs.declared.error.ClusterError.TheVariants as error
@@ -27,7 +27,8 @@ pub record IsCaller (sc : Scenario) (v : View) : Type 0 where
   pub number : actors_of sc ≤ part.number
 
 -- The step was done at this place, behind all that the pass had seen and been told; what the pass has then seen is a run and
--- ends with the step, which is the last one of the caller's part too. It is named with the caller's number and one actor's
+-- ends with the step, which is the next one of the caller's part: of the entries before it, none that the part did not have
+-- names the caller. It is named with the caller's number and one actor's
 pub record IsOwn (sc : Scenario) (v : View) (taken : Step) (place : ℕ) (w : View) : Type 0 where
   pub before : List Entry
   pub entry : Entry
@@ -37,6 +38,7 @@ pub record IsOwn (sc : Scenario) (v : View) (taken : Step) (place : ℕ) (w : Vi
   pub lawful : Lawful (IsNext sc) w.seen
   pub begins : StartsWith before v.seen
   pub told : v.told ≤ place
+  pub current : Each (IsPart before) v.parts
   pub actor : ℕ
   pub numbers : entry.numbers ≡ numbers_of v.parts ++ actor ∷ []
   pub parts : w.parts ≡ map (moved w.seen) v.parts
@@ -86,14 +88,14 @@ pub record IsPlan (plan : Plan) : Type 0 where
   pub some : 1 ≤ plan.callers
   pub few : plan.callers ≤ 100
 
--- the world is that of a history's steps: nothing is compared. The history is one of which the wire's closing tells what all passes
--- show
+-- The world is that of the book's steps: nothing is compared. The wire's closing tells of the book beside these passes and
+-- beside those of the actors: the part of each actor is among the latter, and they took no mail
 pub record IsClosedWorld (plan : Plan) (views : List View) (world : WorldView) : Type 0 where
-  pub log : List Entry
   pub book : Book
+  pub offices : List View
   pub scenario : world.scenario ≡ plan.scenario
   pub live : world.given_up ≡ false
-  pub machine : world.machine ≡ after plan.scenario (steps_in log)
-  pub lawful : Lawful (IsNext plan.scenario) log
-  pub steps : book.steps ≡ steps_in log
-  pub closed : IsClosed (IsNext plan.scenario) (actors_of plan.scenario) (actors_of plan.scenario + plan.callers) views book
+  pub machine : world.machine ≡ after plan.scenario book.steps
+  pub closed : IsClosed (IsNext plan.scenario) (actors_of plan.scenario) (actors_of plan.scenario + plan.callers) (views ++ offices) book
+  pub held : HasParts (actors_of plan.scenario) (parts_of offices)
+  pub untaken : Each (λ (p : Part). p.took ≡ []) (parts_of offices)

@@ -16,8 +16,7 @@ use std::sync::Wait;
 use tp_machine::{Act, Spares, StepError};
 use tp_offices::{Authority, CLOCK_END};
 use tp_types::{CredId, List, Mail, NoMemory, Reaction, Step, What};
-use tp_wire as wire;
-use tp_wire::Site;
+use tp_wire::{Pass, Site};
 
 /// A clock that would reach its end.
 fn too_late(clock: u64, by: u64) -> Option<StepError>
@@ -33,7 +32,7 @@ fn too_late(clock: u64, by: u64) -> Option<StepError>
 pub fn tick<B: Site<Plan>, R: Wait>(
     rt: &R,
     wire: &ClusterWire<B>,
-    pass: &mut wire::Pass,
+    pass: &mut Pass,
     office: Office<Authority, B>,
     by: u64,
 ) -> Left<Authority, B>
@@ -83,7 +82,7 @@ pub fn tick<B: Site<Plan>, R: Wait>(
 pub fn revoke<B: Site<Plan>, R: Wait>(
     rt: &R,
     wire: &ClusterWire<B>,
-    pass: &mut wire::Pass,
+    pass: &mut Pass,
     office: Office<Authority, B>,
     cred: CredId,
 ) -> Left<Authority, B>
@@ -141,7 +140,7 @@ fn received(spares: &mut Spares, state: &Authority, mail: &Mail) -> Result<Act, 
 pub fn deliver<B: Site<Plan>, R: Wait>(
     rt: &R,
     wire: &ClusterWire<B>,
-    pass: &mut wire::Pass,
+    pass: &mut Pass,
     office: Office<Authority, B>,
     given: u64,
     mail: &Mail,

@@ -10,12 +10,11 @@ ghost use Rattle.tp_machine.specs.Named.{IsAdmin, IsCred, IsServer, IsTxn};
 ghost use Rattle.tp_cluster.specs.Calls.{IsAnswer, IsCaller, IsClosedWorld, IsReady};
 ghost use Rattle.tp_cluster.specs.Runs.{IsNext, actors_of};
 
-use crate::closing::{inner_passes, replay};
+use crate::closing::{any_given_up, gathered, replay};
 use crate::error::ClusterError;
 use crate::gate::Gate2;
 use crate::meeting::ClusterWire;
 use crate::opening::{Actors, ClusterOpening, deal, passes_of};
-use crate::pass::Pass;
 use crate::plan::Plan;
 use crate::{authority, coordinators, master, servers};
 use std::alloc::Global;
@@ -23,8 +22,7 @@ use std::marker::Model;
 use std::sync::Wait;
 use tp_machine::{StepError, World};
 use tp_types::{Actor, AdminId, CredId, List, Mail, NoMemory, Place, ServerId, TxnId};
-use tp_wire as wire;
-use tp_wire::{Lookup, Site, Wire};
+use tp_wire::{Lookup, Pass, Site, Wire};
 
 /// The cluster of a scenario. `B` says which one it is.
 #[derive(Drop)]
@@ -68,17 +66,18 @@ impl<B: Site<Plan>> Cluster<B> {
         Ok((cluster, callers))
     }
 
-    /// A length of the history, which the pass is then told. It takes neither a lock nor memory, and may be asked of a pass that is
-    /// given up.
+    /// A length of the history, which the pass is then told. It takes neither a lock nor memory, and may be asked of a
+    /// pass that is given up.
     pub fn seen(&self, pass: &mut Pass) -> u64
         requires { pass.old.table ≡ B.table }
         ensures same { (pass.new.table ≡ pass.old.table) × (pass.new.given_up ≡ pass.old.given_up) }
         ensures look { IsLook (IsNext B.about.scenario) (actors_of B.about.scenario) result pass.old.view pass.new.view }
     {
-        self.wire.look(&mut pass.inner)
+        self.wire.look(pass)
     }
 
-    /// Takes the oldest mail that no pass has taken, or answers None where each that the pass has then seen sent is taken.
+    /// Takes the oldest mail that no pass has taken, or answers None where each that the pass has then seen sent is
+    /// taken.
     pub fn take<R: Wait>(&self, rt: &R, pass: &mut Pass) -> Result<Option<u64>, NoMemory>
         requires site { pass.old.table ≡ B.table }
         requires caller { pass.old.given_up ≡ false → IsCaller B.about.scenario pass.old.view }
@@ -90,14 +89,14 @@ impl<B: Site<Plan>> Cluster<B> {
         ensures caller { OnOk result (IsCaller B.about.scenario pass.new.view) }
         ensures memory { OnErr result (pass.new.given_up ≡ true) }
     {
-        if pass.given_up {
+        if pass.given_up() {
             return Err(NoMemory);
         }
-        match self.wire.take(rt, &mut pass.inner) {
+        match self.wire.take(rt, pass) {
             Ok(Some(mail)) => Ok(Some(mail)),
             Ok(None) => Ok(None),
             Err(NoMemory) => {
-                pass.given_up = true;
+                pass.give_up();
                 Err(NoMemory)
             }
         }
@@ -111,17 +110,17 @@ impl<B: Site<Plan>> Cluster<B> {
         ensures answer { IsAnswer B.about.scenario pass.old (step.Tick by) result pass.new }
         ensures memory { IsErrOf result ClusterError.NoMemory → pass.new.given_up ≡ true }
     {
-        if pass.given_up {
+        if pass.given_up() {
             return Err(ClusterError::NoMemory);
         }
-        let answer = self.ticks(rt, &mut pass.inner, by);
+        let answer = self.ticks(rt, pass, by);
         if let Err(ClusterError::NoMemory) = answer {
-            pass.given_up = true;
+            pass.give_up();
         }
         answer
     }
 
-    fn ticks<R: Wait>(&self, rt: &R, pass: &mut wire::Pass, by: u64) -> Result<Place, ClusterError>
+    fn ticks<R: Wait>(&self, rt: &R, pass: &mut Pass, by: u64) -> Result<Place, ClusterError>
         requires { IsReady B.about.scenario B.table pass.old }
         ensures site { pass.new.table ≡ B.table }
         ensures answer { IsAnswer B.about.scenario pass.old (step.Tick by) result pass.new }
@@ -149,22 +148,17 @@ impl<B: Site<Plan>> Cluster<B> {
         ensures answer { IsAnswer B.about.scenario pass.old (step.Revoke cred) result pass.new }
         ensures memory { IsErrOf result ClusterError.NoMemory → pass.new.given_up ≡ true }
     {
-        if pass.given_up {
+        if pass.given_up() {
             return Err(ClusterError::NoMemory);
         }
-        let answer = self.revokes(rt, &mut pass.inner, cred);
+        let answer = self.revokes(rt, pass, cred);
         if let Err(ClusterError::NoMemory) = answer {
-            pass.given_up = true;
+            pass.give_up();
         }
         answer
     }
 
-    fn revokes<R: Wait>(
-        &self,
-        rt: &R,
-        pass: &mut wire::Pass,
-        cred: CredId,
-    ) -> Result<Place, ClusterError>
+    fn revokes<R: Wait>(&self, rt: &R, pass: &mut Pass, cred: CredId) -> Result<Place, ClusterError>
         requires ready { IsReady B.about.scenario B.table pass.old }
         requires exists { IsCred B.about.scenario cred }
         ensures site { pass.new.table ≡ B.table }
@@ -193,22 +187,17 @@ impl<B: Site<Plan>> Cluster<B> {
         ensures answer { IsAnswer B.about.scenario pass.old (step.Submit txn) result pass.new }
         ensures memory { IsErrOf result ClusterError.NoMemory → pass.new.given_up ≡ true }
     {
-        if pass.given_up {
+        if pass.given_up() {
             return Err(ClusterError::NoMemory);
         }
-        let answer = self.submits(rt, &mut pass.inner, txn);
+        let answer = self.submits(rt, pass, txn);
         if let Err(ClusterError::NoMemory) = answer {
-            pass.given_up = true;
+            pass.give_up();
         }
         answer
     }
 
-    fn submits<R: Wait>(
-        &self,
-        rt: &R,
-        pass: &mut wire::Pass,
-        txn: TxnId,
-    ) -> Result<Place, ClusterError>
+    fn submits<R: Wait>(&self, rt: &R, pass: &mut Pass, txn: TxnId) -> Result<Place, ClusterError>
         requires ready { IsReady B.about.scenario B.table pass.old }
         requires exists { IsTxn B.about.scenario txn }
         ensures site { pass.new.table ≡ B.table }
@@ -237,22 +226,17 @@ impl<B: Site<Plan>> Cluster<B> {
         ensures answer { IsAnswer B.about.scenario pass.old (step.Timer txn) result pass.new }
         ensures memory { IsErrOf result ClusterError.NoMemory → pass.new.given_up ≡ true }
     {
-        if pass.given_up {
+        if pass.given_up() {
             return Err(ClusterError::NoMemory);
         }
-        let answer = self.fires(rt, &mut pass.inner, txn);
+        let answer = self.fires(rt, pass, txn);
         if let Err(ClusterError::NoMemory) = answer {
-            pass.given_up = true;
+            pass.give_up();
         }
         answer
     }
 
-    fn fires<R: Wait>(
-        &self,
-        rt: &R,
-        pass: &mut wire::Pass,
-        txn: TxnId,
-    ) -> Result<Place, ClusterError>
+    fn fires<R: Wait>(&self, rt: &R, pass: &mut Pass, txn: TxnId) -> Result<Place, ClusterError>
         requires ready { IsReady B.about.scenario B.table pass.old }
         requires exists { IsTxn B.about.scenario txn }
         ensures site { pass.new.table ≡ B.table }
@@ -286,12 +270,12 @@ impl<B: Site<Plan>> Cluster<B> {
         ensures answer { IsAnswer B.about.scenario pass.old (step.Publish admin) result pass.new }
         ensures memory { IsErrOf result ClusterError.NoMemory → pass.new.given_up ≡ true }
     {
-        if pass.given_up {
+        if pass.given_up() {
             return Err(ClusterError::NoMemory);
         }
-        let answer = self.publishes(rt, &mut pass.inner, admin);
+        let answer = self.publishes(rt, pass, admin);
         if let Err(ClusterError::NoMemory) = answer {
-            pass.given_up = true;
+            pass.give_up();
         }
         answer
     }
@@ -299,7 +283,7 @@ impl<B: Site<Plan>> Cluster<B> {
     fn publishes<R: Wait>(
         &self,
         rt: &R,
-        pass: &mut wire::Pass,
+        pass: &mut Pass,
         admin: AdminId,
     ) -> Result<Place, ClusterError>
         requires ready { IsReady B.about.scenario B.table pass.old }
@@ -331,12 +315,12 @@ impl<B: Site<Plan>> Cluster<B> {
         ensures answer { IsAnswer B.about.scenario pass.old (step.Push admin server) result pass.new }
         ensures memory { IsErrOf result ClusterError.NoMemory → pass.new.given_up ≡ true }
     {
-        if pass.given_up {
+        if pass.given_up() {
             return Err(ClusterError::NoMemory);
         }
-        let answer = self.pushes(rt, &mut pass.inner, admin, server);
+        let answer = self.pushes(rt, pass, admin, server);
         if let Err(ClusterError::NoMemory) = answer {
-            pass.given_up = true;
+            pass.give_up();
         }
         answer
     }
@@ -344,7 +328,7 @@ impl<B: Site<Plan>> Cluster<B> {
     fn pushes<R: Wait>(
         &self,
         rt: &R,
-        pass: &mut wire::Pass,
+        pass: &mut Pass,
         admin: AdminId,
         server: ServerId,
     ) -> Result<Place, ClusterError>
@@ -365,7 +349,7 @@ impl<B: Site<Plan>> Cluster<B> {
     fn to_coordinator<R: Wait>(
         &self,
         rt: &R,
-        pass: &mut wire::Pass,
+        pass: &mut Pass,
         txn: TxnId,
         number: u64,
         mail: &Mail,
@@ -395,7 +379,7 @@ impl<B: Site<Plan>> Cluster<B> {
     fn to_authority<R: Wait>(
         &self,
         rt: &R,
-        pass: &mut wire::Pass,
+        pass: &mut Pass,
         number: u64,
         mail: &Mail,
     ) -> Result<Place, ClusterError>
@@ -417,7 +401,7 @@ impl<B: Site<Plan>> Cluster<B> {
     fn to_master<R: Wait>(
         &self,
         rt: &R,
-        pass: &mut wire::Pass,
+        pass: &mut Pass,
         number: u64,
         mail: &Mail,
     ) -> Result<Place, ClusterError>
@@ -451,12 +435,12 @@ impl<B: Site<Plan>> Cluster<B> {
         ensures answer { IsAnswer B.about.scenario pass.old (step.Deliver number) result pass.new }
         ensures memory { IsErrOf result ClusterError.NoMemory → pass.new.given_up ≡ true }
     {
-        if pass.given_up {
+        if pass.given_up() {
             return Err(ClusterError::NoMemory);
         }
-        let answer = self.delivers(rt, alloc, &mut pass.inner, number, gate);
+        let answer = self.delivers(rt, alloc, pass, number, gate);
         if let Err(ClusterError::NoMemory) = answer {
-            pass.given_up = true;
+            pass.give_up();
         }
         answer
     }
@@ -465,7 +449,7 @@ impl<B: Site<Plan>> Cluster<B> {
         &self,
         rt: &R,
         alloc: Global,
-        pass: &mut wire::Pass,
+        pass: &mut Pass,
         number: u64,
         gate: &G,
     ) -> Result<Place, ClusterError>
@@ -489,7 +473,7 @@ impl<B: Site<Plan>> Cluster<B> {
     fn receives<R: Wait, G: Gate2>(
         &self,
         rt: &R,
-        pass: &mut wire::Pass,
+        pass: &mut Pass,
         number: u64,
         mail: &Mail,
         gate: &G,
@@ -510,7 +494,7 @@ impl<B: Site<Plan>> Cluster<B> {
     fn to_server<R: Wait, G: Gate2>(
         &self,
         rt: &R,
-        pass: &mut wire::Pass,
+        pass: &mut Pass,
         at: ServerId,
         number: u64,
         mail: &Mail,
@@ -539,15 +523,18 @@ impl<B: Site<Plan>> Cluster<B> {
         answer
     }
 
-    /// Closes the cluster, and gives the world of its history's steps. It compares nothing: the history is a run. With a pass that is
-    /// given up it answers NoMemory.
+    /// Closes the cluster, and gives the world of its history's steps. It compares nothing: the history is a run. With
+    /// a pass that is given up it answers NoMemory.
     pub fn close(self, alloc: Global, passes: List<Pass>) -> Result<World, NoMemory>
         requires { Each (λ (p : Known). p.table ≡ B.table) passes }
         ensures closed { IfOk result (λ world. IsClosedWorld B.about (views_of passes) world) }
         ensures live { OnOk result (Each (λ (p : Known). p.given_up ≡ false) passes) }
     {
-        let Cluster { plan, wire, .. } = self;
-        let passes = inner_passes::<B>(alloc, passes)?;
+        let Cluster { plan, wire, actors } = self;
+        if any_given_up(&passes) {
+            return Err(NoMemory);
+        }
+        let passes = gathered(&plan, passes, actors)?;
         let book = wire.close(passes)?;
         let world = World::of(alloc, plan.scenario)?;
         replay(alloc, world, book.steps)

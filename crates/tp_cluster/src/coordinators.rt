@@ -23,8 +23,7 @@ use tp_machine::{
     Act, Nobody, Part, Spares, StepError, coordinator_begins, coordinator_takes, no_act,
 };
 use tp_types::{Actor, List, Mail, NoMemory, Reaction, Scenario, Step, TxnId};
-use tp_wire as wire;
-use tp_wire::Site;
+use tp_wire::{Pass, Site};
 
 /// Whether this is the coordinator of a transaction.
 fn is_coordinator(found: Actor, txn: TxnId) -> bool
@@ -41,7 +40,7 @@ pub fn deliver<B: Site<Plan>, R: Wait>(
     rt: &R,
     wire: &ClusterWire<B>,
     scenario: &Scenario,
-    pass: &mut wire::Pass,
+    pass: &mut Pass,
     office: Office<Part<Coordinator>, B>,
     txn: TxnId,
     given: u64,
@@ -137,7 +136,7 @@ pub fn timer<B: Site<Plan>, R: Wait>(
     rt: &R,
     wire: &ClusterWire<B>,
     scenario: &Scenario,
-    pass: &mut wire::Pass,
+    pass: &mut Pass,
     office: Office<Part<Coordinator>, B>,
     txn: TxnId,
 ) -> Left<Part<Coordinator>, B>
@@ -204,7 +203,7 @@ pub fn submit<B: Site<Plan>, R: Wait>(
     rt: &R,
     wire: &ClusterWire<B>,
     scenario: &Scenario,
-    pass: &mut wire::Pass,
+    pass: &mut Pass,
     office: Office<Part<Coordinator>, B>,
     txn: TxnId,
 ) -> Left<Part<Coordinator>, B>
@@ -254,7 +253,7 @@ pub fn submit<B: Site<Plan>, R: Wait>(
 fn placed<B: Site<Plan>, R: Wait>(
     rt: &R,
     wire: &ClusterWire<B>,
-    pass: &mut wire::Pass,
+    pass: &mut Pass,
     number: u32,
     actor: Actor,
     mut state: Part<Coordinator>,

@@ -16,8 +16,7 @@ use std::sync::Wait;
 use tp_machine::{Act, Spares, StepError, alone};
 use tp_offices::{Master, NoMore};
 use tp_types::{AdminId, List, Mail, NoMemory, Reaction, ServerId, Step, What};
-use tp_wire as wire;
-use tp_wire::Site;
+use tp_wire::{Pass, Site};
 
 /// What happens as the master publishes the next version.
 fn published(spares: &mut Spares, state: &mut Master, admin: AdminId) -> Result<Act, NoMemory>
@@ -63,7 +62,7 @@ fn received(spares: &mut Spares, state: &Master, mail: &Mail) -> Result<Act, NoM
 pub fn publish<B: Site<Plan>, R: Wait>(
     rt: &R,
     wire: &ClusterWire<B>,
-    pass: &mut wire::Pass,
+    pass: &mut Pass,
     office: Office<Master, B>,
     admin: AdminId,
 ) -> Left<Master, B>
@@ -112,7 +111,7 @@ pub fn publish<B: Site<Plan>, R: Wait>(
 pub fn push<B: Site<Plan>, R: Wait>(
     rt: &R,
     wire: &ClusterWire<B>,
-    pass: &mut wire::Pass,
+    pass: &mut Pass,
     office: Office<Master, B>,
     admin: AdminId,
     server: ServerId,
@@ -155,7 +154,7 @@ pub fn push<B: Site<Plan>, R: Wait>(
 pub fn deliver<B: Site<Plan>, R: Wait>(
     rt: &R,
     wire: &ClusterWire<B>,
-    pass: &mut wire::Pass,
+    pass: &mut Pass,
     office: Office<Master, B>,
     given: u64,
     mail: &Mail,

@@ -1,4 +1,5 @@
-//! A caller's pass under an actor's lock: it takes the actor's pass in, does a step or is refused, and gives that pass back.
+//! A caller's pass under an actor's lock: it takes the actor's pass in, does a step or is refused, and gives that pass
+//! back.
 ghost use Rattle.std.specs.Prelude.{◌≡◌, List, Some, false, IfOk};
 ghost use Rattle.tp_model.specs.Words.{Actor, Step};
 ghost use Rattle.tp_machine.specs.declared.error.StepError.{StepError};
@@ -20,8 +21,7 @@ use std::marker::PhantomData;
 use std::sync::Wait;
 use tp_machine::{Act, Spares, StepError};
 use tp_types::{Actor, NoMemory, Place, Step};
-use tp_wire as wire;
-use tp_wire::{Site, Wire};
+use tp_wire::{Pass, Site, Wire};
 
 /// The history of a cluster.
 pub type ClusterWire<B> = Wire<Plan, Runs, B>;
@@ -30,7 +30,7 @@ pub type ClusterWire<B> = Wire<Plan, Runs, B>;
 pub type Left<S, B> = (Option<Office<S, B>>, Result<Place, ClusterError>);
 
 /// The caller's pass takes in the actor's, and looks: what is kept with the actor is then what the machine has of it.
-pub fn meet<B: Site<Plan>>(wire: &ClusterWire<B>, pass: &mut wire::Pass, kept: wire::Pass)
+pub fn meet<B: Site<Plan>>(wire: &ClusterWire<B>, pass: &mut Pass, kept: Pass)
     requires ready { IsReady B.about.scenario B.table pass.old }
     requires kept { (kept.table ≡ B.table) × (kept.given_up ≡ false) }
     ensures site { pass.new.table ≡ B.table }
@@ -46,11 +46,11 @@ pub fn meet<B: Site<Plan>>(wire: &ClusterWire<B>, pass: &mut wire::Pass, kept: w
 pub fn post<B: Site<Plan>, R: Wait>(
     rt: &R,
     wire: &ClusterWire<B>,
-    pass: &mut wire::Pass,
+    pass: &mut Pass,
     number: u32,
     taken: Step,
     act: Act,
-) -> Result<(Place, wire::Pass), NoMemory>
+) -> Result<(Place, Pass), NoMemory>
     requires { CanPost B.about.scenario B.table pass.old taken act }
     ensures site { pass.new.table ≡ B.table }
     ensures ok { IfOk result (λ made.
@@ -67,9 +67,9 @@ pub fn turn_back<B: Site<Plan>, R: Wait>(
     rt: &R,
     alloc: Global,
     wire: &ClusterWire<B>,
-    pass: &mut wire::Pass,
+    pass: &mut Pass,
     number: u32,
-) -> Result<wire::Pass, NoMemory>
+) -> Result<Pass, NoMemory>
     requires site { pass.old.table ≡ B.table }
     requires live { pass.old.given_up ≡ false }
     ensures site { pass.new.table ≡ B.table }
@@ -85,7 +85,7 @@ pub fn turn_back<B: Site<Plan>, R: Wait>(
 pub fn finish<S: Officer + Drop, B: Site<Plan>, R: Wait>(
     rt: &R,
     wire: &ClusterWire<B>,
-    pass: &mut wire::Pass,
+    pass: &mut Pass,
     number: u32,
     actor: Actor,
     state: S,
@@ -124,7 +124,7 @@ pub fn finish<S: Officer + Drop, B: Site<Plan>, R: Wait>(
 pub fn refuse<S: Officer + Drop, B: Site<Plan>, R: Wait>(
     rt: &R,
     wire: &ClusterWire<B>,
-    pass: &mut wire::Pass,
+    pass: &mut Pass,
     number: u32,
     actor: Actor,
     state: S,

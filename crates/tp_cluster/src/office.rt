@@ -7,8 +7,7 @@ use tp_machine::{Locks, Part, Spares};
 use tp_offices::{Authority, Master};
 use tp_server::Server;
 use tp_types::Actor;
-use tp_wire as wire;
-use tp_wire::Site;
+use tp_wire::{Pass, Site};
 
 /// What an actor has, as the machine has it.
 pub trait Officer {
@@ -41,14 +40,14 @@ impl Officer for Master {
     ghost held = { λ master. OfMaster master };
 }
 
-/// What stands behind an actor's lock: what it has, the pass with its part of the history, and the memory that its steps lend one
-/// another. Contracts see it as the actor.
+/// What stands behind an actor's lock: what it has, the pass with its part of the history, and the memory that its
+/// steps lend one another. Contracts see it as the actor.
 #[derive(Drop)]
 pub struct Office<S: Officer, B: Site<Plan>> {
     pub number: u32,
     pub actor: Actor,
     pub state: S,
-    pub pass: wire::Pass,
+    pub pass: Pass,
     pub spares: Spares,
     pub site: PhantomData<B>,
 }

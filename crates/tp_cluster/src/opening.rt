@@ -10,7 +10,6 @@ ghost use Rattle.tp_wire.specs.Passes.{fresh_pass, fresh_passes};
 ghost use Rattle.tp_cluster.specs.Runs.{actors_of};
 
 use crate::office::{Office, Officer};
-use crate::pass::Pass;
 use crate::plan::{Plan, Runs};
 use std::alloc::Global;
 use std::marker::{Model, PhantomData};
@@ -24,7 +23,7 @@ use tp_server::Server;
 use tp_store::first_item;
 use tp_types::{Actor, List, NoMemory, Scenario, ServerId, TryClone, TxnId};
 use tp_wire as wire;
-use tp_wire::Site;
+use tp_wire::{Pass, Site};
 
 /// An actor behind its lock. None is left of one that was lost with its memory.
 pub type Locked<S, B> = Mutex<Option<Office<S, B>>>;
@@ -84,7 +83,7 @@ pub fn passes_of(plan: &Plan) -> u32
 /// The passes of a wire that are not dealt yet. Contracts see the number of the next one.
 #[derive(Drop)]
 pub struct Dealer<B: Site<Plan>> {
-    passes: IntoIter<wire::Pass, Global>,
+    passes: IntoIter<Pass, Global>,
     number: u32,
     site: PhantomData<B>,
 }
@@ -103,7 +102,7 @@ impl<B: Site<Plan>> Model for Dealer<B> {
 
 impl<B: Site<Plan>> Dealer<B> {
     /// All passes of a wire, so many.
-    pub fn of(passes: List<wire::Pass>, count: u32) -> Dealer<B>
+    pub fn of(passes: List<Pass>, count: u32) -> Dealer<B>
         requires { passes ≡ fresh_passes B.table 0 count }
         ensures { result ≡ 0 }
     {
@@ -115,7 +114,7 @@ impl<B: Site<Plan>> Dealer<B> {
     }
 
     /// The next pass, with its number.
-    fn next(&mut self) -> Result<(u32, wire::Pass), NoMemory>
+    fn next(&mut self) -> Result<(u32, Pass), NoMemory>
         ensures { IfOk result (λ dealt. (dealt.0 ≡ self.old) × (dealt.1 ≡ fresh_pass B.table self.old) × (self.new ≡ self.old + 1)) }
     {
         let Some(next) = self.number.checked_add(1) else {
@@ -237,7 +236,7 @@ impl<B: Site<Plan>> Dealer<B> {
         let mut made = List::new(alloc);
         for dealt in 0..count {
             let (_, pass) = self.next()?;
-            made.push(Pass::of(pass))?;
+            made.push(pass)?;
         }
         Ok(made)
     }
@@ -256,7 +255,7 @@ pub struct Actors<B: Site<Plan>> {
 pub fn deal<B: Site<Plan>>(
     alloc: Global,
     plan: &Plan,
-    passes: List<wire::Pass>,
+    passes: List<Pass>,
     count: u32,
 ) -> Result<(Actors<B>, List<Pass>), NoMemory>
     requires about { plan.now ≡ B.about }

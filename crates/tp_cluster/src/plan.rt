@@ -11,7 +11,8 @@ pub struct Plan {
     pub callers: u32,
 }
 
-/// The law of a cluster's history: it is a run of the scenario's machine. Its type stands for a definition, and has no value.
+/// The law of a cluster's history: it is a run of the scenario's machine. Its type stands for a definition, and has no
+/// value.
 pub struct Runs;
 
 impl Law<Plan> for Runs {

@@ -15,8 +15,7 @@ use std::sync::Wait;
 use tp_machine::{Locks, Nobody, Part, server_takes};
 use tp_server::Server;
 use tp_types::{Actor, Mail, NoMemory, Scenario, ServerId, Step};
-use tp_wire as wire;
-use tp_wire::Site;
+use tp_wire::{Pass, Site};
 
 /// Whether this is the server of a number.
 fn is_server(found: Actor, at: ServerId) -> bool
@@ -33,7 +32,7 @@ pub fn deliver<B: Site<Plan>, R: Wait>(
     rt: &R,
     wire: &ClusterWire<B>,
     scenario: &Scenario,
-    pass: &mut wire::Pass,
+    pass: &mut Pass,
     office: Office<Part<Server<Locks>>, B>,
     at: ServerId,
     given: u64,

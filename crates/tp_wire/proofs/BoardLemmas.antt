@@ -44,7 +44,7 @@ module _ {K : Type 0} (follows : K → List Entry → Entry → Type 0) (actors 
       subst (λ (k : K). Allows (λ (s : State S View). Kept (follows k) (actors k) (passes k) s.words s.views) slots id me 0 (λ n. n) (λ n w. Made (follows about) (actors about) (passes about) n me.0 (clears me.0) × (w ≡ (clears me.0, me.1))))
       (sym told) (makes (follows about) (actors about) (passes about) slots id me.0 (clears me.0) me.1 (λ n. n) [] book refl (clearing (follows about) (actors about) (passes about) me.0 book none))
 
-  pub add_at : {S : Type 0} (slots id : ℕ) (me : Me S View) (e : Entry) → me.0.book ≡ true → length me.0.log < 2 ^ 56 → e.numbers ≡ numbers_of me.0.parts → HasOneActor (actors about) e → MayPost (follows about) me.0 e
+  pub add_at : {S : Type 0} (slots id : ℕ) (me : Me S View) (e : Entry) → me.0.book ≡ true → length me.0.log < 2 ^ 48 → e.numbers ≡ numbers_of me.0.parts → HasOneActor (actors about) e → MayPost (follows about) me.0 e
       → Allows (ruled {S = S}) slots id me 0 (λ n. (n + 1) % 2 ^ 64) (λ n w. Made (follows about) (actors about) (passes about) n me.0 (adds e me.0) × (w ≡ (adds e me.0, me.1)))
   add_at {S = S} slots id me e book room numbers actor may =
       let grown : (length me.0.log + 1) % 2 ^ 64 ≡ length (me.0.log ++ e ∷ []) = omega (arith, length-append me.0.log (e ∷ []), room) in

@@ -280,6 +280,8 @@ closes follows actors passes d v ws steps facts mails next book l is holds s f m
       mails = m ∙ (l.mails_are ∙ ap mails_in (sym kept.0));
       lawful = h.lawful;
       acted = h.acted;
+      short = h.short;
+      named = h.named;
       seen = each_as (λ (w : View). StartsWith whole.seen w.seen) (λ (w : View). StartsWith whole.log w.seen) (λ w begins. starts_trans whole.log whole.seen w.seen h.begins begins) ws also;
       told = each_as (λ (w : View). w.told ≤ whole.told) (λ (w : View). w.told ≤ length whole.log) (λ w most. let all = h.told in omega (arith, most, all)) ws (told_most d ws).1;
       parts = in_log;

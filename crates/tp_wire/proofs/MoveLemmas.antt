@@ -10,7 +10,7 @@ use Rattle.tp_wire.specs.declared.view.Entry.{Entry}
 use Rattle.tp_wire.specs.declared.view.Part.{Part}
 use Rattle.tp_wire.specs.declared.view.View.{View}
 use Rattle.tp_wire.specs.Entries.{sent_in}
-use Rattle.tp_wire.specs.History.{StartsWith, HasOneActor, IsPart, times, numbers_of, taken_by}
+use Rattle.tp_wire.specs.History.{StartsWith, HasOneActor, IsPart, NamesBelow, times, numbers_of, taken_by}
 use Rattle.tp_wire.specs.Rule.{Fits, Kept}
 use Rattle.tp_wire.specs.Passes.{Knows, IsLook, MayPost, looked, moved, with_mail}
 use Rattle.tp_wire.specs.mirrors.Moves.{Holds, Made, reads, adds, takes, clears}
@@ -118,6 +118,7 @@ module _ (follows : List Entry → Entry → Type 0) (actors passes : ℕ) where
     short = h.short;
     lawful = h.lawful;
     acted = h.acted;
+    named = h.named;
     sent = h.sent;
     low = h.low;
     fits = fits_whole v f;
@@ -138,6 +139,7 @@ module _ (follows : List Entry → Entry → Type 0) (actors passes : ℕ) where
         short = h.short;
         lawful = h.lawful;
         acted = h.acted;
+        named = h.named;
         sent = h.sent;
         low = h.low;
         fits = record {
@@ -157,7 +159,11 @@ module _ (follows : List Entry → Entry → Type 0) (actors passes : ℕ) where
 
   -- ---- an entry
 
-  pub adding : (v : View) (e : Entry) → v.book ≡ true → length v.log < 2 ^ 56 → e.numbers ≡ numbers_of v.parts → HasOneActor actors e → MayPost follows v e
+  -- the numbers of parts are those of the wire's passes
+  low_numbers : (parts : List Part) → Each (λ (q : Part). q.number < passes) parts → Each (λ (n : ℕ). n < passes) (numbers_of parts)
+  low_numbers parts low = each_map (λ (q : Part). q.number < passes) (λ (n : ℕ). n < passes) (λ (q : Part). q.number) (λ q l. l) parts low
+
+  pub adding : (v : View) (e : Entry) → v.book ≡ true → length v.log < 2 ^ 48 → e.numbers ≡ numbers_of v.parts → HasOneActor actors e → MayPost follows v e
       → Holds follows actors passes v → Fits passes v.log v.takers v → IsMove follows actors passes (e ∷ []) v (adds e v)
   adding v e book room numbers acted may h f =
       let log = v.log ++ e ∷ [] in
@@ -175,6 +181,7 @@ module _ (follows : List Entry → Entry → Type 0) (actors passes : ℕ) where
         short = omega (arith, length-append v.log (e ∷ []), room);
         lawful = lawful_more follows v.log e h.lawful (may v.log h.begins h.parts h.lawful);
         acted = each_append (HasOneActor actors) v.log (e ∷ []) h.acted (acted, tt);
+        named = each_append (NamesBelow passes) v.log (e ∷ []) h.named (subst (Each (λ (number : ℕ). number < passes)) (sym numbers) (low_numbers v.parts f.low), tt);
         sent = let s = h.sent in omega (arith, sent-append v.log (e ∷ []), s);
         low = h.low;
         fits = record {
@@ -223,8 +230,9 @@ module _ (follows : List Entry → Entry → Type 0) (actors passes : ℕ) where
         short = h.short;
         lawful = h.lawful;
         acted = h.acted;
+        named = h.named;
         sent = omega (arith, longer, free);
-        low = each_append (λ (taker : ℕ). taker < passes) v.takers (numbers_of v.parts) h.low (each_map (λ (q : Part). q.number < passes) (λ (n : ℕ). n < passes) (λ (q : Part). q.number) (λ q l. l) v.parts f.low);
+        low = each_append (λ (taker : ℕ). taker < passes) v.takers (numbers_of v.parts) h.low (low_numbers v.parts f.low);
         fits = record {
           begins = w.begins;
           told_least = w.told_least;

@@ -9,7 +9,7 @@ use Rattle.tp_wire.specs.declared.view.Entry.{Entry}
 use Rattle.tp_wire.specs.declared.view.Part.{Part}
 use Rattle.tp_wire.specs.declared.view.View.{View}
 use Rattle.tp_wire.specs.Entries.{sent_in}
-use Rattle.tp_wire.specs.History.{StartsWith, Lawful, Misses, HasOneActor, IsPart, one_if, times, numbers_of, taken_by}
+use Rattle.tp_wire.specs.History.{StartsWith, Lawful, Misses, HasOneActor, IsPart, NamesBelow, one_if, times, numbers_of, taken_by}
 use Rattle.tp_wire.specs.Rule.{Fits, KeptOf, books, parts_at}
 use Rattle.tp_wire.specs.Passes.{Knows}
 use Rattle.tp_wire.specs.mirrors.Moves.{Holds}
@@ -36,9 +36,10 @@ pub record IsMove (follows : List Entry → Entry → Type 0) (actors passes : �
   pub taking : (n : ℕ) → times n (numbers_of v.parts) ≡ 0 → taken_by n next.takers ≡ taken_by n v.takers
   pub count : length v.takers ≤ length next.takers
   pub parts_of : (n : ℕ) → parts_at n next ≤ parts_at n v
-  pub short : length next.log ≤ 2 ^ 56
+  pub short : length next.log ≤ 2 ^ 48
   pub lawful : Lawful follows next.log
   pub acted : Each (HasOneActor actors) next.log
+  pub named : Each (NamesBelow passes) next.log
   pub sent : length next.takers ≤ sent_in next.log
   pub low : Each (λ (taker : ℕ). taker < passes) next.takers
   pub fits : Fits passes next.log next.takers next
@@ -78,6 +79,7 @@ move_keeps follows actors passes words views extra at v next here m k =
       short = m.short;
       lawful = m.lawful;
       acted = m.acted;
+      named = m.named;
       sent = m.sent;
       low = m.low;
       one_book = let s = total_set books views at v next here in let o = k.one_book in omega (arith, s, o, next_books, v_books);
@@ -99,6 +101,7 @@ view_keeps follows actors passes words views log takers at v next here b p f k =
   short = k.short;
   lawful = k.lawful;
   acted = k.acted;
+  named = k.named;
   sent = k.sent;
   low = k.low;
   one_book = let s = total_set books views at v next here in let o = k.one_book in omega (arith, s, o, b);
@@ -114,6 +117,7 @@ word_keeps follows actors passes words now views log takers e k = record {
   short = k.short;
   lawful = k.lawful;
   acted = k.acted;
+  named = k.named;
   sent = k.sent;
   low = k.low;
   one_book = k.one_book;
@@ -136,6 +140,7 @@ held follows actors passes words views at v here k f = record {
   short = k.short;
   lawful = k.lawful;
   acted = k.acted;
+  named = k.named;
   parts = f.parts;
   took = f.took;
   apart = λ n. let one = total_one (parts_at n) views at v here in let all = k.one_part n in omega (arith, one, all);

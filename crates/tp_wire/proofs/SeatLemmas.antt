@@ -54,6 +54,7 @@ module _ (follows : List Entry → Entry → Type 0) (actors passes : ℕ) where
           short = k.short;
           lawful = k.lawful;
           acted = k.acted;
+          named = k.named;
           sent = k.sent;
           low = k.low;
           one_book = let t = total_set books s.views id v left here in let m = total_more books (slice_set s.views id left) right in let o = k.one_book in omega (arith, t, m, o, b);
@@ -153,6 +154,7 @@ module _ (follows : List Entry → Entry → Type 0) (actors passes : ℕ) where
           short = k.short;
           lawful = k.lawful;
           acted = k.acted;
+          named = k.named;
           sent = k.sent;
           low = k.low;
           one_book = let t = total_set books s.views id v both here in let u = total_set books (slice_set s.views id both) other w spent there in let o = k.one_book in omega (arith, t, u, o, b);
@@ -290,6 +292,7 @@ opens follows actors passes homes = (
     short = omega arith;
     lawful = lawful_empty follows;
     acted = tt;
+    named = tt;
     sent = omega arith;
     low = tt;
     one_book = omega arith;

@@ -1,12 +1,12 @@
 -- What a closed book is, beside the passes that were taken in.
-use Rattle.std.specs.Prelude.{◌≡◌, ℕ, ◌+◌, ◌<◌, ◌≤◌, ◌&&◌, List, [], ◌∷◌, length, filter, flat_map, take, nat_lt}
+use Rattle.std.specs.Prelude.{◌≡◌, ℕ, ◌+◌, ◌<◌, ◌≤◌, ◌^◌, ◌&&◌, List, [], ◌∷◌, length, filter, flat_map, take, nat_lt}
 use Rattle.tp_types.specs.Each.{Each}
 use Rattle.tp_wire.specs.declared.book.Book.{Book}
 use Rattle.tp_wire.specs.declared.view.Entry.{Entry}
 use Rattle.tp_wire.specs.declared.view.Part.{Part}
 use Rattle.tp_wire.specs.declared.view.View.{View}
 use Rattle.tp_wire.specs.Entries.{steps_in, facts_in, mails_in, sent_in}
-use Rattle.tp_wire.specs.History.{StartsWith, Lawful, HasOneActor, IsPart, one_if, times, names, numbers_of, taken_by}
+use Rattle.tp_wire.specs.History.{StartsWith, Lawful, HasOneActor, IsPart, NamesBelow, one_if, times, names, numbers_of, taken_by}
 
 -- all parts of these views
 abbrev pub parts_of : List View → List Part
@@ -29,7 +29,8 @@ abbrev pub holders : ℕ → List Part → Entry → ℕ
 holders actors [] e = 0
 holders actors (p ∷ parts) e = one_if (nat_lt p.number actors && names p.number e) + holders actors parts e
 
--- There is one history, of which the book tells the steps, the facts and the mails, and which keeps the law. What each
+-- There is one history, of which the book tells the steps, the facts and the mails, and which keeps the law. It has at
+-- most 2^48 entries, each of which names numbers of the wire's passes alone, and one actor's. What each
 -- pass has seen begins it, and no pass was told a greater length than it has. The entries of each part are all entries
 -- of the history that name it, in the history's order, and no two parts have one number. Where the parts of all actors
 -- are here, each entry stands in just one of these. The mails that were taken are the first ones of the book, so many as
@@ -44,6 +45,8 @@ pub record IsClosed (follows : List Entry → Entry → Type 0) (actors passes :
   pub mails : book.mails ≡ mails_in log
   pub lawful : Lawful follows log
   pub acted : Each (HasOneActor actors) log
+  pub short : length log ≤ 2 ^ 48
+  pub named : Each (NamesBelow passes) log
   pub seen : Each (λ (v : View). StartsWith log v.seen) views
   pub told : Each (λ (v : View). v.told ≤ length log) views
   pub parts : Each (IsPart log) (parts_of views)

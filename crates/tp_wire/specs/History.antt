@@ -1,5 +1,5 @@
 -- A history, its beginnings, and its parts.
-use Rattle.std.specs.Prelude.{◌≡◌, ℕ, ◌+◌, ◌==◌, List, [], ◌∷◌, ◌++◌, map, Bool, true, false, nat_lt, if◌then◌else◌}
+use Rattle.std.specs.Prelude.{◌≡◌, ℕ, ◌+◌, ◌<◌, ◌==◌, List, [], ◌∷◌, ◌++◌, map, Bool, true, false, nat_lt, if◌then◌else◌}
 use Rattle.tp_types.specs.Each.{Each}
 use Rattle.tp_wire.specs.declared.view.Entry.{Entry}
 use Rattle.tp_wire.specs.declared.view.Part.{Part}
@@ -37,6 +37,10 @@ Misses number e = times number e.numbers ≡ 0
 -- the entry is of one actor: it names one number below this one, and once
 abbrev pub HasOneActor : ℕ → Entry → Type 0
 HasOneActor actors e = times_below actors e.numbers ≡ 1
+
+-- the entry names numbers below this one alone
+abbrev pub NamesBelow : ℕ → Entry → Type 0
+NamesBelow limit e = Each (λ (number : ℕ). number < limit) e.numbers
 
 -- the history begins with that of the part, and behind it no entry names the part
 abbrev pub IsPart : List Entry → Part → Type 0

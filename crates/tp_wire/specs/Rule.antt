@@ -5,7 +5,7 @@ use Rattle.tp_wire.specs.declared.view.Entry.{Entry}
 use Rattle.tp_wire.specs.declared.view.Part.{Part}
 use Rattle.tp_wire.specs.declared.view.View.{View}
 use Rattle.tp_wire.specs.Entries.{sent_in}
-use Rattle.tp_wire.specs.History.{StartsWith, Lawful, HasOneActor, IsPart, one_if, times, numbers_of, taken_by}
+use Rattle.tp_wire.specs.History.{StartsWith, Lawful, HasOneActor, IsPart, NamesBelow, one_if, times, numbers_of, taken_by}
 
 -- ---- one view
 
@@ -39,9 +39,10 @@ parts_at number v = times number (numbers_of v.parts)
 -- the word is the length of the history, which is lawful; one view at most has the book, and one the part of a number
 pub record KeptOf (follows : List Entry → Entry → Type 0) (actors passes : ℕ) (words : List ℕ) (views : List View) (log : List Entry) (takers : List ℕ) : Type 0 where
   pub word : words ≡ length log ∷ []
-  pub short : length log ≤ 2 ^ 56
+  pub short : length log ≤ 2 ^ 48
   pub lawful : Lawful follows log
   pub acted : Each (HasOneActor actors) log
+  pub named : Each (NamesBelow passes) log
   pub sent : length takers ≤ sent_in log
   pub low : Each (λ (taker : ℕ). taker < passes) takers
   pub one_book : total books views ≤ 1

@@ -91,7 +91,7 @@ impl<K, L: Law<K>, B: Site<K>> Board<K, L, B> {
     pub fn add<E: Posting>(&self, seat: &mut Seat<(), View>) -> u64
         requires site { seat.old.table_id ≡ B.table }
         requires book { seat.old.me.0.book ≡ true }
-        requires room { length seat.old.me.0.log < 2 ^ 56 }
+        requires room { length seat.old.me.0.log < 2 ^ 48 }
         requires numbers { E.entry.numbers ≡ numbers_of seat.old.me.0.parts }
         requires actor { HasOneActor (L.actors B.about) E.entry }
         requires law { MayPost (L.follows B.about) seat.old.me.0 E.entry }

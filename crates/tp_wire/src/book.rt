@@ -18,8 +18,8 @@ use std::alloc::Global;
 use std::marker::{Model, PhantomData};
 use tp_types::{Fact, Letter, List, Mail, NoMemory, Place, Step, TryClone, What};
 
-/// At most so many entries: 2^56, which no run comes near.
-const MOST: usize = 1 << 56;
+/// At most so many entries: 2^48, which no run comes near.
+const MOST: usize = 1 << 48;
 
 /// A wire's history, once it is closed.
 #[derive(Drop)]

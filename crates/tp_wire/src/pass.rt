@@ -43,8 +43,8 @@ impl Pass {
         self.given_up
     }
 
-    /// Gives it up.
-    pub(crate) fn give_up(&mut self)
+    /// Gives it up, as who meets want of memory under a call of its own.
+    pub fn give_up(&mut self)
         ensures { self.new ≡ record self.old { given_up = true } }
     {
         self.given_up = true;

@@ -6,7 +6,7 @@ use Rattle.tp_wire.specs.declared.view.Entry.{Entry}
 use Rattle.tp_wire.specs.declared.view.Part.{Part}
 use Rattle.tp_wire.specs.declared.view.View.{View}
 use Rattle.tp_wire.specs.Entries.{sent_in}
-use Rattle.tp_wire.specs.History.{StartsWith, Lawful, HasOneActor, IsPart, times, numbers_of, taken_by}
+use Rattle.tp_wire.specs.History.{StartsWith, Lawful, HasOneActor, IsPart, NamesBelow, times, numbers_of, taken_by}
 use Rattle.tp_wire.specs.Passes.{moved, with_mail, joined}
 use Rattle.tp_wire.specs.Rule.{holder, keeper}
 
@@ -16,9 +16,10 @@ use Rattle.tp_wire.specs.Rule.{holder, keeper}
 pub record Holds (follows : List Entry → Entry → Type 0) (actors passes : ℕ) (v : View) : Type 0 where
   pub begins : StartsWith v.log v.seen
   pub told : v.told ≤ length v.log
-  pub short : length v.log ≤ 2 ^ 56
+  pub short : length v.log ≤ 2 ^ 48
   pub lawful : Lawful follows v.log
   pub acted : Each (HasOneActor actors) v.log
+  pub named : Each (NamesBelow passes) v.log
   pub parts : Each (IsPart v.log) v.parts
   pub took : Each (λ (p : Part). p.took ≡ taken_by p.number v.takers) v.parts
   pub apart : (number : ℕ) → times number (numbers_of v.parts) ≤ 1

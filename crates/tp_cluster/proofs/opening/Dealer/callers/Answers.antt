@@ -11,5 +11,5 @@ loop-dealt-preserved g c =
     let next = e.2 in (
       omega (arith, first, next),
       c.in_ok-push.ensures.ok
-          ∙ dealt_more g.B.Site.table c.args.self.now c.loop-dealt.dealt c.loop-dealt.made c.of.result i.1 (c.of.ensures ∙ (e.1 ∙ ap (fresh_pass g.B.Site.table) i.0)),
+          ∙ dealt_more g.B.Site.table c.args.self.now c.loop-dealt.dealt c.loop-dealt.made c.in_ok-pass.pass i.1 (e.1 ∙ ap (fresh_pass g.B.Site.table) i.0),
     )
