@@ -1,5 +1,5 @@
 -- An input that is told, and what is taken of it: at most one scenario is read of it, or it is refused for one reason.
-use Rattle.std.proofs.Common.{◌≡◌, ◌⊎◌, inl, inr, ℕ, ◌+◌, ◌<◌, ◌≤◌, List, [], ◌++◌, length, Option, Some, None, Result, Ok, Err, refl, sym, ap, ◌∙◌, arith}
+use Rattle.std.proofs.Common.{◌≡◌, ◌⊎◌, inl, inr, ℕ, ◌+◌, ◌<◌, ◌≤◌, List, [], ◌++◌, length, Option, Some, None, Result, Ok, Err, refl, sym, ap, subst, ◌∙◌, arith}
 use Rattle.std.proofs.lemmas.List.{length-append, append-nil}
 use Rattle.std.proofs.lemmas.Option.{same_Some}
 use Rattle.std.specs.Io.KnownBytes.{Consumes, IsAtEnd}
@@ -11,7 +11,7 @@ use Rattle.tp_scenario.specs.declared.from_bytes.ScenarioError.{ScenarioError}
 use Rattle.tp_scenario.specs.declared.from_bytes.ScenarioError.TheVariants as error
 use Rattle.tp_ends.specs.Input.{IsRead, Reads}
 use Rattle.tp_ends.specs.Streams.{Stream}
-use Rattle.tp_ends.specs.Unread.{AreRefused, IsInputRefused, input_max}
+use Rattle.tp_ends.specs.Unread.{AreRefused, IsInputRefused, TakesRefused, input_max}
 use Rattle.tp_ends.specs.declared.answer.Answer.{Answer}
 use Rattle.tp_ends.specs.declared.answer.Answer.TheVariants as answer
 use Rattle.tp_ends.specs.Calls.{IsRefusal, IsUnread}
@@ -67,6 +67,24 @@ refused_or_read bytes why sc r s =
 -- too many bytes are refused as such
 pub long_refused : (bytes : List ℕ) → input_max < length bytes → AreRefused bytes error.TooLong
 long_refused bytes long = inl (record { long = long; answer_is = refl })
+
+-- ---- an input that is told is what was read
+
+pub read_whole : (input : Stream) (told : List ℕ) (sc : Scenario) → input.old ≡ Some told → IsRead input sc → Reads told sc
+read_whole input told sc e r = subst (λ (bytes : List ℕ). Reads bytes sc) (whole_bytes input.old input.new told r.bytes e r.taken.consumed r.taken.at_end) r.reads
+
+refused_whole : (input : Stream) (told : List ℕ) (why : ScenarioError) → input.old ≡ Some told → TakesRefused input why → AreRefused told why
+refused_whole input told why e t = subst (λ (bytes : List ℕ). AreRefused bytes why) (whole_bytes input.old input.new told t.bytes e t.taken.consumed t.taken.at_end) t.refused
+
+-- whatever it was refused for, its bytes are refused so
+pub cause_whole : (input : Stream) (told : List ℕ) (why : ScenarioError) → input.old ≡ Some told → IsInputRefused input why → AreRefused told why
+cause_whole input told error.TooLong e t = long_refused told (omega (arith, long_bytes input.old input.new told (input_max + 1) e t))
+cause_whole input told error.BadJson e t = refused_whole input told error.BadJson e t
+cause_whole input told (error.Shape path) e t = refused_whole input told (error.Shape path) e t
+cause_whole input told (error.Range path) e t = refused_whole input told (error.Range path) e t
+cause_whole input told (error.Unknown path) e t = refused_whole input told (error.Unknown path) e t
+cause_whole input told (error.Policy path fault) e t = refused_whole input told (error.Policy path fault) e t
+cause_whole input told error.NoMemory e t = absurd t
 
 -- ---- what comes of an input
 

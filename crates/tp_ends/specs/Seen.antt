@@ -5,7 +5,7 @@ use Rattle.tp_model.specs.Words.{Text}
 use Rattle.tp_types.specs.Faults.{Rose}
 use Rattle.tp_ends.specs.Streams.{Call, Stream}
 use Rattle.tp_ends.specs.declared.status.Status.{Status}
-use Rattle.tp_ends.specs.declared.status.Status.TheVariants.{NoMemory}
+use Rattle.tp_ends.specs.declared.status.Status.TheVariants.{NoMemory, Refused}
 
 -- a stream that tells its bytes and counts its faults so, before a call and after it
 abbrev pub seen : {A : Type 0} → (A → Option (List ℕ)) → (A → ℕ) → A → A → Stream
@@ -34,3 +34,8 @@ pub record NoneFailed (call : Call) : Type 0 where
 -- this status, or want of memory
 abbrev pub Ends : Status → Status → Type 0
 Ends status wanted = (status ≡ wanted) ⊎ (status ≡ NoMemory)
+
+-- the refusal with this line, or want of memory
+abbrev pub EndsRefused : Status → Stream → List ℕ → Type 0
+EndsRefused status notes line =
+    ((status ≡ Refused) × Appends notes.old notes.new line) ⊎ (status ≡ NoMemory)

@@ -8,11 +8,11 @@ use Rattle.tp_model.specs.Valid.{is_valid}
 use Rattle.tp_model.specs.Words.{Scenario, Step}
 use Rattle.tp_scenario.specs.declared.from_bytes.ScenarioError.{ScenarioError}
 use Rattle.tp_scenario.specs.declared.from_bytes.ScenarioError.TheVariants as error
-use Rattle.tp_ends.proofs.InputLemmas.{long_bytes, long_refused, refused_or_read, same_refusal, same_scenario, whole_bytes}
+use Rattle.tp_ends.proofs.InputLemmas.{cause_whole, long_refused, read_whole, refused_or_read, same_refusal, same_scenario}
 use Rattle.tp_top.proofs.ListedLemmas.{listed_are}
 use Rattle.tp_ends.proofs.PrintableRun.{run_rests}
 use Rattle.tp_ends.specs.Headline.{Told}
-use Rattle.tp_ends.specs.Input.{IsRead, Reads}
+use Rattle.tp_ends.specs.Input.{Reads}
 use Rattle.tp_ends.specs.Refusals.{refusal_line}
 use Rattle.tp_top.specs.Refusals.{step_line}
 use Rattle.tp_top.specs.Rows.{HasText, RefusesFor, reads_at_most}
@@ -20,7 +20,7 @@ use Rattle.tp_top.specs.mirrors.Commands.{Answers}
 use Rattle.tp_top.specs.Runs.{ComesTo, EndsRightly, HasRefusal, OwesRun, RunsTo, first_refused}
 use Rattle.tp_ends.specs.Seen.{NoneFailed}
 use Rattle.tp_ends.specs.Streams.{Call, Stream}
-use Rattle.tp_ends.specs.Unread.{AreRefused, IsInputRefused, RefusesInput, TakesRefused, input_max}
+use Rattle.tp_ends.specs.Unread.{AreRefused, RefusesInput, input_max}
 use Rattle.tp_ends.specs.declared.answer.Answer.{Answer}
 use Rattle.tp_ends.specs.declared.answer.Answer.TheVariants as answer
 use Rattle.tp_ends.specs.declared.listed.StepRefusal.{StepRefusal}
@@ -53,24 +53,6 @@ unread_by command input (answer.Refused text line) most refuses h = refuses text
 unread_by command input answer.ReadFault most refuses h =
     record { reads = omega (arith, most); rose = h.rose; taken = subst (λ (count : ℕ). TakesAtMost count input.old input.new) (sym most) h.taken }
 unread_by command input answer.NoMemory most refuses h = tt
-
--- ---- an input that is told is what was read
-
-pub read_whole : (input : Stream) (told : List ℕ) (sc : Scenario) → input.old ≡ Some told → IsRead input sc → Reads told sc
-read_whole input told sc e r = subst (λ (bytes : List ℕ). Reads bytes sc) (whole_bytes input.old input.new told r.bytes e r.taken.consumed r.taken.at_end) r.reads
-
-refused_whole : (input : Stream) (told : List ℕ) (why : ScenarioError) → input.old ≡ Some told → TakesRefused input why → AreRefused told why
-refused_whole input told why e t = subst (λ (bytes : List ℕ). AreRefused bytes why) (whole_bytes input.old input.new told t.bytes e t.taken.consumed t.taken.at_end) t.refused
-
--- whatever it was refused for, its bytes are refused so
-cause_whole : (input : Stream) (told : List ℕ) (why : ScenarioError) → input.old ≡ Some told → IsInputRefused input why → AreRefused told why
-cause_whole input told error.TooLong e t = long_refused told (omega (arith, long_bytes input.old input.new told (input_max + 1) e t))
-cause_whole input told error.BadJson e t = refused_whole input told error.BadJson e t
-cause_whole input told (error.Shape path) e t = refused_whole input told (error.Shape path) e t
-cause_whole input told (error.Range path) e t = refused_whole input told (error.Range path) e t
-cause_whole input told (error.Unknown path) e t = refused_whole input told (error.Unknown path) e t
-cause_whole input told (error.Policy path fault) e t = refused_whole input told (error.Policy path fault) e t
-cause_whole input told error.NoMemory e t = absurd t
 
 -- ---- the statuses
 

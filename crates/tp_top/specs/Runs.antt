@@ -1,6 +1,5 @@
 -- What comes of a scenario: of its run, where that comes to rest, or of the first listed step that is refused.
 use Rattle.std.specs.Prelude.{◌≡◌, ◌⊎◌, ◌<◌, ℕ, List, [], length, take, Option, Some, None, IfSome}
-use Rattle.std.specs.Io.KnownBytes.{Appends}
 use Rattle.tp_model.specs.Words.{Scenario, Step}
 use Rattle.tp_scenario.specs.declared.from_bytes.ScenarioError.{ScenarioError}
 use Rattle.tp_scenario.specs.declared.from_bytes.ScenarioError.TheVariants as error
@@ -9,12 +8,12 @@ use Rattle.tp_ends.specs.Headline.{Told}
 use Rattle.tp_ends.specs.Input.{IsRead, Reads}
 use Rattle.tp_ends.specs.Refusals.{refusal_line}
 use Rattle.tp_top.specs.Refusals.{step_line}
-use Rattle.tp_ends.specs.Seen.{Ends, NoneFailed}
+use Rattle.tp_ends.specs.Seen.{Ends, EndsRefused, NoneFailed}
 use Rattle.tp_ends.specs.Streams.{Call, Stream}
 use Rattle.tp_ends.specs.Unread.{AreRefused, RefusesInput, input_max}
 use Rattle.tp_ends.specs.declared.listed.StepRefusal.{StepRefusal}
 use Rattle.tp_ends.specs.declared.status.Status.{Status}
-use Rattle.tp_ends.specs.declared.status.Status.TheVariants.{Done, Refused, NoMemory}
+use Rattle.tp_ends.specs.declared.status.Status.TheVariants.{Done}
 
 -- the first listed step that the machine refuses
 abbrev pub first_refused : Scenario → Option StepRefusal
@@ -54,11 +53,6 @@ pub record RefusesStep (before : Scenario → List Step → List ℕ) (input : S
 abbrev pub HasRefusal : (Scenario → List Step → List ℕ) → Stream → List ℕ → List ℕ → Type 0
 HasRefusal before input text line =
     RefusesInput input text line ⊎ RefusesStep before input text line
-
--- the refusal with this line, or want of memory
-abbrev pub EndsRefused : Status → Stream → List ℕ → Type 0
-EndsRefused status notes line =
-    ((status ≡ Refused) × Appends notes.old notes.new line) ⊎ (status ≡ NoMemory)
 
 -- each cause in the input has its line, and a scenario of which no listed step is refused is done
 pub record EndsRightly (input : List ℕ) (status : Status) (notes : Stream) : Type 0 where

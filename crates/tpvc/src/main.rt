@@ -2,10 +2,8 @@
 //! standard output, a refusal to standard error.
 #![tactic(auto)]
 
-mod words;
-
-use crate::words::words;
 use std::process::ExitCode;
+use tp_args::words;
 use tp_io::{StdNotes, StdSink, StdSource};
 use tp_top::{Status, tpvc};
 use tp_types::NoMemory;

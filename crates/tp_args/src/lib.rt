@@ -1,4 +1,6 @@
-//! The words after the program's name, as bytes: one that is not UTF-8 reaches the top call as it is.
+//! The words after a program's name, as bytes: one that is not UTF-8 reaches the top call as it is.
+#![tactic(auto)]
+
 use std::env::FillError;
 use std::rt::Env;
 use tp_types::{List, NoMemory, Text};
@@ -44,7 +46,7 @@ fn word<R: Env + AllocGlobal>(rt: &R, place: usize) -> Result<Option<Text>, NoMe
 }
 
 /// The words, in order.
-pub(crate) fn words<R: Env + AllocGlobal>(rt: &R) -> Result<List<Text>, NoMemory> {
+pub fn words<R: Env + AllocGlobal>(rt: &R) -> Result<List<Text>, NoMemory> {
     let mut words = List::new(rt.alloc());
     for place in 1..usize::MAX {
         match word(rt, place)? {
