@@ -1,0 +1,17 @@
+pub mod AutomaticLemmas
+pub mod BookLemmas
+pub mod CallerLemmas
+pub mod ClosedLemmas
+pub mod CommandLemmas
+pub mod FinishLemmas
+pub mod ListLemmas
+pub mod MailLemmas
+pub mod PassLemmas
+pub mod PassedBook
+pub mod RaceLemmas
+pub mod RefusalLemmas
+pub mod SaidLemmas
+pub mod ScriptLemmas
+pub mod ShareLemmas
+pub mod TallyLemmas
+pub mod WholeLemmas

@@ -1,0 +1,40 @@
+//! The race: clients, publishers and officers on threads, the steps that happened, and their report.
+//!
+//! What is promised, with the contract that carries it:
+//!
+//! - At Done there were no words, the input was read whole as a scenario without listed steps, and exactly the text of
+//!   a race with a trusted history of it was written: `race 1`, a line for each step, and the report. Its steps are
+//!   those of the closed cluster's book and then the automatic ones, it has few mails, and its report can be read back
+//!   (`race`: `promised`: `RacesTrusted`)
+//! - These steps are a whole race: each transaction stands in one submission, each script is within them, what comes
+//!   from publishers and officers stands there as often as in all scripts, each mail's number stands in one delivery,
+//!   no mail is lost, nobody crashes, timers stand behind the book alone, and the machine is quiet after them
+//!   (`WholeRace`)
+//! - Each status has its cause: Refused where the input is no scenario, or one that lists steps; Usage where there is
+//!   a word; ReadFault and WriteFault where the count of faults rose, and then a front of the one text or line was
+//!   written. At NoMemory nothing was written (`race`: `ended`)
+//! - Of an input that tells its bytes, where there are no words and no count rose, each cause has its line, and a
+//!   scenario that lists no steps is done, or memory was refused (`race`: `complete`). Words are answered by usage
+//!   where the notes' count did not rise (`race`: `called`), and then nothing is read (`race`: `unread`). At most
+//!   16,777,217 bytes are taken (`race`: `taken`)
+//! - Of a cluster that any callers have used, and of all its passes, `finish` writes the same text, of a trusted
+//!   history (`finish`: `promised`: `FinishesTrusted`). The first steps of it are the book (`IsBook`): each is of just
+//!   one pass, the steps of each pass stand there in its order, with those of all passes together there are no others,
+//!   what each pass has seen begins the book, and no mail was taken twice. Where the output's count did not rise it is
+//!   done, or memory was refused (`finish`: `complete`, `ended`)
+//!
+//! Not claimed: that a race returns. Its threads wait for one another's locks.
+#![tactic(auto)]
+
+mod caller;
+mod finishing;
+mod racing;
+mod scripts;
+mod text;
+mod threads;
+mod top;
+
+pub use finishing::finish;
+pub use top::race;
+pub use tp_cluster::Gate2 as Gate;
+pub use tp_ends::Status;
