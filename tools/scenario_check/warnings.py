@@ -238,10 +238,10 @@ def of_last_steps(scenario):
 
 
 def of_scripts(scenario):
-    """Of the scripts of a race."""
+    """Of the scripts of a race, beside listed steps."""
     for key in ("clients", "publishers", "officers"):
-        if any(scenario.whole[key]):
-            words = f"run does nothing of {key}, which are scripts for a race of threads: what it is to do stands in"
+        if scenario.steps and any(scenario.whole[key]):
+            words = f"run does nothing of {key}, which are scripts of a race, and race refuses a scenario that lists"
             yield Told("script", f"$.{key}", place_of(scenario.whole.nodes[key]), f"{words} steps")
 
 
