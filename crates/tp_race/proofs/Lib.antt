@@ -5,11 +5,14 @@ pub mod ClosedLemmas
 pub mod CommandLemmas
 pub mod FinishLemmas
 pub mod ListLemmas
+pub mod ListedSteps
+pub mod ListingLemmas
 pub mod MailLemmas
 pub mod PassLemmas
 pub mod PassedBook
 pub mod RaceLemmas
 pub mod RefusalLemmas
+pub mod ReplayLemmas
 pub mod SaidLemmas
 pub mod ScriptLemmas
 pub mod ShareLemmas

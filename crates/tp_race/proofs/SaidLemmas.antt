@@ -35,9 +35,9 @@ at_weighs g place (w ∷ whats) =
     omega (arith, sum_by-cons (λ (fact : Fact). g fact.what) (record { place = place; what = w }) (at_place place whats), sum_by-cons g w whats, later)
 
 -- what actors' logs say has no weight, and what a step says has the step's
-record IsTold (sc : Scenario) (g : What → ℕ) (f : Step → ℕ) : Type 0 where
-  inside : (w : What) → is_from_outside_what w ≡ false → g w ≡ 0
-  says : (facts : List Fact) (place : ℕ) (taken : Step) → sum_by g (said_by sc facts place taken) ≡ f taken
+pub record IsTold (sc : Scenario) (g : What → ℕ) (f : Step → ℕ) : Type 0 where
+  pub inside : (w : What) → is_from_outside_what w ≡ false → g w ≡ 0
+  pub says : (facts : List Fact) (place : ℕ) (taken : Step) → sum_by g (said_by sc facts place taken) ≡ f taken
 
 from_weighs : (sc : Scenario) (g : What → ℕ) (f : Step → ℕ) → IsTold sc g f → (facts : List Fact) (place : ℕ) (steps : List Step) → sum_by (λ (fact : Fact). g fact.what) (said_from sc facts place steps) ≡ sum_by f steps
 from_weighs sc g f t facts place [] = refl
@@ -47,7 +47,7 @@ from_weighs sc g f t facts place (taken ∷ steps) =
     let later = from_weighs sc g f t facts (place + 1) steps in
     omega (arith, sum_by-append (λ (fact : Fact). g fact.what) (at_place place (said_by sc facts place taken)) (said_from sc facts (place + 1) steps), sum_by-cons f taken steps, here, says, later)
 
-told : (sc : Scenario) (g : What → ℕ) (f : Step → ℕ) → IsTold sc g f → (steps : List Step) (facts : List Fact) → IsOutside sc steps facts → sum_by (λ (fact : Fact). g fact.what) facts ≡ sum_by f steps
+pub told : (sc : Scenario) (g : What → ℕ) (f : Step → ℕ) → IsTold sc g f → (steps : List Step) (facts : List Fact) → IsOutside sc steps facts → sum_by (λ (fact : Fact). g fact.what) facts ≡ sum_by f steps
 told sc g f t steps facts h =
     sym (sum_filter (λ (fact : Fact). g fact.what) is_from_outside (λ fact e. t.inside fact.what e) facts)
     ∙ (ap (sum_by (λ (fact : Fact). g fact.what)) h.said ∙ from_weighs sc g f t facts 0 steps)

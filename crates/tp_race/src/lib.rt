@@ -10,6 +10,9 @@
 //!   from publishers and officers stands there as often as in all scripts, each mail's number stands in one delivery,
 //!   no mail is lost, nobody crashes, timers stand behind the book alone, and the machine is quiet after them
 //!   (`WholeRace`)
+//! - Where these steps are at most 100,000, a scenario may list them, each printed spelling is read as its step and as
+//!   no other, and what `run` promises of the scenario that lists them is the report with which the text ends
+//!   (`laws::races_are_replayed`)
 //! - Each status has its cause: Refused where the input is no scenario, or one that lists steps; Usage where there is
 //!   a word; ReadFault and WriteFault where the count of faults rose, and then a front of the one text or line was
 //!   written. At NoMemory nothing was written (`race`: `ended`)
@@ -28,6 +31,7 @@
 
 mod caller;
 mod finishing;
+pub mod laws;
 mod racing;
 mod scripts;
 mod text;
