@@ -11,6 +11,7 @@ pub mod MailLemmas
 pub mod PassLemmas
 pub mod PassedBook
 pub mod RaceLemmas
+pub mod ReadAgain
 pub mod RefusalLemmas
 pub mod ReplayLemmas
 pub mod SaidLemmas

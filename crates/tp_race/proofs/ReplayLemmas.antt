@@ -22,6 +22,7 @@ use Rattle.tp_model.specs.Valid.{has_valid_data, has_valid_policies, is_valid, i
 use Rattle.tp_model.specs.Words.{Scenario, Step}
 use Rattle.tp_race.proofs.ListedSteps.{book_named, steps_valid}
 use Rattle.tp_race.proofs.ListingLemmas.{after_unlisted, ending_unlisted, next_unlisted, opening_unlisted, refused_unlisted, report_unlisted, text_unlisted}
+use Rattle.tp_race.proofs.ReadAgain.{read_again}
 use Rattle.tp_race.specs.Replayed.{IsListed, IsRun, RacesAreReplayed, listing}
 use Rattle.tp_race.specs.WholeRace.{WholeRace}
 use Rattle.tp_report.specs.ReportText.{report_text}
@@ -159,12 +160,14 @@ texts_unlisted sc listed (taken ∷ steps) =
 lists : (sc : Scenario) (steps : List Step) → is_valid (listing sc steps) ≡ true → is_spelled sc ≡ true → length steps ≤ steps_limit → list_all (is_valid_step sc) steps ≡ true → IsListed sc steps
 lists sc steps formed spelled few valid =
     let of = listing sc steps in
+    let read : steps_at (names_of sc) (Some (array_of (map (step_text sc) steps))) ≡ Ok steps
+    = ap (λ (texts : List (List ℕ)). steps_at (names_of sc) (Some (array_of texts))) (sym (texts_unlisted sc steps steps)) ∙ list_read_back of steps formed spelled few valid in
     record {
       valid = formed;
       spelled = spelled;
       says = each_as (λ (taken : Step). is_valid_step sc taken ≡ true) (λ (taken : Step). SaysOnly of taken (step_text sc taken))
           (λ taken h. subst (SaysOnly of taken) (text_unlisted sc steps taken) (step_read_back of taken formed spelled h)) steps (each_from_all (is_valid_step sc) steps valid);
-      reads = ap (λ (texts : List (List ℕ)). steps_at (names_of sc) (Some (array_of texts))) (sym (texts_unlisted sc steps steps)) ∙ list_read_back of steps formed spelled few valid;
+      reads = λ value other e sets. read_again sc steps (map (step_text sc) steps) value other e sets read;
     }
 
 pub replayed : RacesAreReplayed

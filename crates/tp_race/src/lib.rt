@@ -11,8 +11,8 @@
 //!   no mail is lost, nobody crashes, timers stand behind the book alone, and the machine is quiet after them
 //!   (`WholeRace`)
 //! - Where these steps are at most 100,000, a scenario may list them, each printed spelling is read as its step and as
-//!   no other, and what `run` promises of the scenario that lists them is the report with which the text ends
-//!   (`laws::races_are_replayed`)
+//!   no other, the JSON of the race with all spellings at `steps` is read as the scenario that lists them, and what
+//!   `run` promises of this one is the report with which the text ends (`laws::races_are_replayed`)
 //! - Each status has its cause: Refused where the input is no scenario, or one that lists steps; Usage where there is
 //!   a word; ReadFault and WriteFault where the count of faults rose, and then a front of the one text or line was
 //!   written. At NoMemory nothing was written (`race`: `ended`)
