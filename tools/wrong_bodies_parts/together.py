@@ -4,48 +4,14 @@ A function is proved of its own body and of the contracts of others. So edits th
 one copy, and one check tells of all: an edit is refused where that tells an error in a function that the edit changes, by its line or in the folder
 of its proof. An edit of which the check tells none is tried alone, and so is one that changes anything but bodies.
 """
-import functools
 import re
 import time
 
 from . import record, trials, verdicts
-from .edits import text_of
+from .bodies import bodies_of, functions_of
 from .front_end import hunks_of, text_with
 
-HEAD = re.compile(r"( *)(?:pub(?:\(crate\))? )?(?:const )?fn (\w+)")
 PLACE = re.compile(r"^(?:note: )?(?:\./)?(\S+?):(\d+):\d+: ")
-
-
-def functions_of(text):
-    """The functions of a file of code as it is laid out: the name of each, and the lines of its head, its opening and its closing brace."""
-    found, lines, at = [], text.split("\n"), 0
-    while at < len(lines):
-        head = HEAD.match(lines[at])
-        if head:
-            opening = re.compile(rf"{head[1]}(?:\{{|(?:\)|pub|const|fn).* \{{)$")
-            opens = next((it for it in range(at, len(lines)) if opening.match(lines[it]) or lines[it].endswith((";", "{}"))), at)
-            if opening.match(lines[opens]):
-                closes = next(it for it in range(opens, len(lines)) if lines[it] == head[1] + "}")
-                found.append((head[2], at, opens, closes))
-                at = closes
-        at += 1
-    return found
-
-
-@functools.cache
-def bodies_of(edit):
-    """The functions whose bodies an edit of code changes, as (path, name). None where it changes anything else, or where two functions of a file
-    have that name."""
-    if edit.kind != "code" or edit.made()[0] is None or edit.changed(".rt") != {edit.crate} or any(not it[0].endswith(".rt") for it in edit.pairs):
-        return None
-    found = set()
-    for path, first, behind, _ in hunks_of(edit):
-        functions = functions_of(text_of(path))
-        name = next((it[0] for it in functions if it[2] < first and behind <= it[3]), None)
-        if [it[0] for it in functions].count(name) != 1:
-            return None
-        found.add((path, name))
-    return found
 
 
 def groups_of(edits):
@@ -92,7 +58,7 @@ def tried(edits, room):
         return
     began = time.monotonic()
     texts = {path: text_with(path, [it for edit in edits for it in hunks_of(edit)]) for path in {it[0] for edit in edits for it in edit.pairs}}
-    at, passed, said = room.check(edits[0], texts)
+    at, passed, said = room.check(edits, texts)
     functions = {path: functions_of(text) for path, text in texts.items()}
     found = {} if passed else {edit: verdict for edit in edits if (verdict := verdict_on(edit, said, functions))}
     seconds = round((time.monotonic() - began) / max(len(found), 1), 1)

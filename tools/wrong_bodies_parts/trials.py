@@ -13,7 +13,7 @@ import tempfile
 import threading
 import time
 
-from . import verdicts
+from . import bodies, verdicts
 from .crates import SOURCES, TOP, between, built, known_built, lines, stands_on
 from .edits import LAWS
 from .front_end import said_by, words_for
@@ -92,10 +92,10 @@ class Room:
     def link(self, name, part):
         linked(*(os.path.join(it, "crates", name, "out", part) for it in (TOP, self.top)))
 
-    def check(self, edit, texts):
-        """Checks the crate with this edit, and puts the room back as it was. Gives the crate at which that ended, whether it passed, and what
+    def check(self, edits, texts):
+        """Checks the crate with these edits, and puts the room back as it was. Gives the crate at which that ended, whether it passed, and what
         was said."""
-        touched = between({*edit.changed(), self.crate}, self.crate)
+        touched = between({self.crate, *(it for edit in edits for it in edit.changed())}, self.crate)
         for name in touched:
             self.link(name, "incremental")
         try:
@@ -103,14 +103,22 @@ class Room:
                 if path.split("/")[1] in touched:
                     with open(os.path.join(self.top, path), "w", encoding="utf-8") as out:
                         out.write(text)
-            if not asked_of(edit):
-                return self.crate, *ran(self.crate, [], self.top)
-            return self.check_theorems(edit, touched)
+            if asked_of(edits[0]):
+                return self.check_theorems(edits[0], touched)
+            return self.crate, *self.check_code(edits)
         finally:
             for name in touched:
                 shutil.rmtree(os.path.join(self.top, "crates", name, "out", "incremental"), ignore_errors=True)
                 self.copy(name, SOURCES)
                 self.link(name, "rlib")
+
+    def check_code(self, edits):
+        asked = bodies.asked_of(edits)
+        if asked:
+            passed, said = said_by(words_for(self.crate, set(), self.top, asked), os.path.join(self.top, "crates", self.crate))
+            if "has no function" not in said:
+                return passed, said
+        return ran(self.crate, [], self.top)
 
     def check_theorems(self, edit, touched):
         for name in touched:
@@ -133,7 +141,7 @@ def tried(edit, room):
     if texts is None:
         at, verdict = edit.checked_crate(), ("DOES NOT FIT", why)
     else:
-        at, passed, said = room.check(edit, texts)
+        at, passed, said = room.check([edit], texts)
         own = {path.removeprefix(f"crates/{at}/") for path in texts if path.startswith(f"crates/{at}/")}
         verdict = verdicts.of_row(passed, said) if edit.kind == "rows" else verdicts.of_code(passed, said, own)
     return {**sources_of(edit, at), "verdict": verdict[0], "by": verdict[1], "seconds": round(time.monotonic() - began, 1)}
@@ -147,7 +155,7 @@ def is_ready(crate):
 def brought_up(edits):
     """Proves in the repository what the trials of these edits begin with, where that is not done. Gives a crate that is not proved, or None."""
     asked = {}
-    for edit in edits:
+    for edit in (it for it in edits if not bodies.asked_of([it])):
         crate, words = edit.checked_crate(), asked_of(edit)
         asked[crate] = words if asked.get(crate, words) else []
     # from the highest on, since a check of a crate sees by their checksums whether those below are built

@@ -24,7 +24,7 @@ def of_code(passed, said, changed):
             return "DOES NOT FIT", it[0][:160]
     if STALE.search(said):
         return "DOES NOT FIT", "the kept work of a library could not be used"
-    if not re.search(r"^logic=not-proved", said, re.M):
+    if not re.search(r"^(?:logic=not-proved|only=)", said, re.M):
         first = next((it for it in said.split("\n") if "error" in it), said.strip().split("\n")[-1] if said.strip() else "no answer")
         return "DOES NOT FIT", first[:160]
     first = next((it for it in told if not (it[2].startswith("proofs/") and TAKEN_AWAY.search(it[5]))), None)
