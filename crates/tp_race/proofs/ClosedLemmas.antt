@@ -113,10 +113,10 @@ book_left sc callers views book r count length_is ends f silent =
     let scripts : asked f (scripts_of sc) 0 (length views) ≡ sum_by (sum_by f) (scripts_of sc) = ap (asked f (scripts_of sc) 0) length_is ∙ asked_all f (scripts_of sc) in
     omega (arith, all, share, first, scripts)
 
--- the cluster refuses no step of a race: callers that ended have done their whole scripts
-pub never_refused : (plan : Plan) (views : List View) (world : WorldView) → is_valid plan.scenario ≡ true → plan.callers ≡ callers_of plan.scenario → IsClosedWorld plan views world
+-- the cluster refuses no step of a script: callers that ended have done their whole scripts
+pub never_stopped : (plan : Plan) (views : List View) (world : WorldView) → is_valid plan.scenario ≡ true → plan.callers ≡ callers_of plan.scenario → IsClosedWorld plan views world
     → AreAll (HasEnded plan.scenario) (callers_of plan.scenario) views → AreAll (HasRun plan.scenario) (callers_of plan.scenario) views
-never_refused plan views world formed count closed all =
+never_stopped plan views world formed count closed all =
     let r = raced plan views world closed in
     record {
       count = all.count;

@@ -35,7 +35,7 @@ use Rattle.tp_race.specs.Finish.{AreAllPasses, FinishEnds, FinishesTo}
 use Rattle.tp_race.specs.Race.{EndsRightly, EndsWith, IsRaceInput, OwesRace, RacesTo, RacesTrusted, RefusesRace, steps_line}
 use Rattle.tp_race.specs.Texts.{race_told}
 use Rattle.tp_race.specs.mirrors.Answers.{IsRaced, IsWritten, RaceEnds}
-use Rattle.tp_race.proofs.ClosedLemmas.{never_refused}
+use Rattle.tp_race.proofs.ClosedLemmas.{never_stopped}
 use Rattle.tp_race.proofs.WholeLemmas.{whole_race}
 
 -- ---- the passes of all callers
@@ -97,7 +97,7 @@ counted sc = omega (arith, length-append (map submissions sc.clients) (sc.publis
 pub races_to : (plan : Plan) (table : TableId) (passes : List Known) (text : List ℕ) → is_valid plan.scenario ≡ true → plan.callers ≡ callers_of plan.scenario → IsRaced plan table passes → FinishesTo plan passes text
     → RacesTo plan.scenario text
 races_to plan table passes text valid count r f =
-    let run = never_refused plan (views_of passes) f.world valid count f.closed (r.ended f.live) in
+    let run = never_stopped plan (views_of passes) f.world valid count f.closed (r.ended f.live) in
     record {
       book = f.closed.book.steps;
       rests = f.rests;

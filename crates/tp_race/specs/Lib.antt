@@ -4,5 +4,6 @@ pub mod Finish
 pub mod Race
 pub mod Replayed
 pub mod Texts
+pub mod Unstopped
 pub mod WholeRace
 pub mod mirrors

@@ -1,5 +1,12 @@
 //! What holds of every race.
 ghost use Rattle.tp_race.specs.Replayed.{RacesAreReplayed};
+ghost use Rattle.tp_race.specs.Unstopped.{NoneIsStopped};
+
+/// No script of a race is stopped by a step that the cluster refuses: scenarios have no scripts that can be. It does not
+/// show as a call answers, but once all passes are together.
+pub fn no_script_is_stopped()
+    ensures { NoneIsStopped }
+{}
 
 /// The steps that a race prints can be listed where there are at most 100,000: the scenario with these steps keeps
 /// every rule, each printed spelling is read as its step and as no other, and the JSON of the race with all spellings

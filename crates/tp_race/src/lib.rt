@@ -4,16 +4,17 @@
 //!
 //! - At Done there were no words, the input was read whole as a scenario without listed steps, and exactly the text of
 //!   a race with a trusted history of it was written: `race 1`, a line for each step, and the report. Its steps are
-//!   those of the closed cluster's book and then the automatic ones, it has few mails, and its report can be read back
-//!   (`race`: `promised`: `RacesTrusted`)
+//!   those of a list, the book, and then the automatic ones behind it; it has few mails, and its report can be read
+//!   back (`race`: `promised`: `RacesTrusted`; `ended`)
 //! - These steps are a whole race: each transaction stands in one submission, each script is within them, what comes
 //!   from publishers and officers stands there as often as in all scripts, each mail's number stands in one delivery,
 //!   no mail is lost, nobody crashes, timers stand behind the book alone, and the machine is quiet after them
 //!   (`WholeRace`)
+//! - No script is stopped by a step that the cluster refuses (`laws::no_script_is_stopped`)
 //! - Where these steps are at most 100,000, a scenario may list them, each printed spelling is read as its step and as
 //!   no other, the JSON of the race with all spellings at `steps` is read as the scenario that lists them, and what
 //!   `run` promises of this one is the report with which the text ends (`laws::races_are_replayed`)
-//! - Each status has its cause: Refused where the input is no scenario, or one that lists steps; Usage where there is
+//! - Each status but NoMemory has its cause: Refused where the input is no scenario, or one that lists steps; Usage where there is
 //!   a word; ReadFault and WriteFault where the count of faults rose, and then a front of the one text or line was
 //!   written. At NoMemory nothing was written (`race`: `ended`)
 //! - Of an input that tells its bytes, where there are no words and no count rose, each cause has its line, and a
