@@ -1,7 +1,7 @@
 -- A caller's pass meets an actor's under its lock, and parts from it.
 use Rattle.std.proofs.Common.{◌≡◌, ◌≢◌, ℕ, ◌+◌, ◌<◌, ◌≤◌, List, [], ◌∷◌, ◌++◌, length, map, max, refl, sym, ap, ◌∙◌, subst, arith}
 use Rattle.std.proofs.lemmas.Bool.Decides.{nat_tests}
-use Rattle.std.specs.Prelude.{◌==◌, Option, Some, None, not, if◌then◌else◌, slice_get, Bool, true, false, nat_lt}
+use Rattle.std.specs.Prelude.{◌==◌, IfSome, Option, Some, None, not, if◌then◌else◌, slice_get, Bool, true, false, nat_lt}
 use Rattle.atomic_table.specs.Seated.{TableId}
 use Rattle.tp_model.specs.Words.actor
 use Rattle.tp_model.specs.Words.{Actor, Letter, Mail, Scenario, Step, What}
@@ -97,6 +97,11 @@ meets sc table who held found old kept mid new ready office taken site live look
       follows = subst P (sym met) (record { begins = starts_self (joined v w).seen; parts = k.parts; lawful = k.lawful });
       state = office.state;
     }
+
+-- the pass that stood with an actor
+pub kept_is : (sc : Scenario) (table : TableId) (who : Actor) (held : Held) (stood : Option Known) (kept : Known)
+    → IfSome stood (IsOffice sc table who held) → Some kept ≡ stood → IsOffice sc table who held kept
+kept_is sc table who held stood kept office same = subst (λ (x : Option Known). IfSome x (IsOffice sc table who held)) (sym same) office
 
 -- ---- what stays however the history goes on
 

@@ -9,13 +9,13 @@ ghost use Rattle.tp_model.specs.Words.step;
 ghost use Rattle.tp_cluster.specs.Calls.{IsAnswer, IsReady};
 
 use crate::error::ClusterError;
-use crate::meeting::{ClusterWire, Left, finish, meet, refuse};
+use crate::meeting::{ClusterWire, finish, meet, refuse};
 use crate::office::Office;
 use crate::plan::Plan;
 use std::sync::Wait;
 use tp_machine::{Act, Spares, StepError};
 use tp_offices::{Authority, CLOCK_END};
-use tp_types::{CredId, List, Mail, NoMemory, Reaction, Step, What};
+use tp_types::{CredId, List, Mail, NoMemory, Place, Reaction, Step, What};
 use tp_wire::{Pass, Site};
 
 /// A clock that would reach its end.
@@ -33,48 +33,55 @@ pub fn tick<B: Site<Plan>, R: Wait>(
     rt: &R,
     wire: &ClusterWire<B>,
     pass: &mut Pass,
-    office: Office<Authority, B>,
+    office: &mut Office<Authority, B>,
     by: u64,
-) -> Left<Authority, B>
+) -> Result<Place, ClusterError>
     requires ready { IsReady B.about.scenario B.table pass.old }
     ensures site { pass.new.table ≡ B.table }
-    ensures answer { IsAnswer B.about.scenario pass.old (step.Tick by) result.1 pass.new }
+    ensures answer { IsAnswer B.about.scenario pass.old (step.Tick by) result pass.new }
 {
-    let Office {
-        number,
-        actor,
-        mut state,
-        pass: kept,
-        mut spares,
-        site: _,
-    } = office;
+    let Some(kept) = office.pass.take() else {
+        return Err(ClusterError::NoMemory);
+    };
     meet(wire, pass, kept);
-    match too_late(state.clock, by) {
-        Some(why) => return refuse(rt, wire, pass, number, actor, state, spares, why),
+    match too_late(office.state.clock, by) {
+        Some(why) => {
+            let alloc = office.spares.alloc();
+            let (left, answer) = refuse(
+                rt,
+                alloc,
+                wire,
+                pass,
+                office.number,
+                office.actor,
+                &office.state,
+                why,
+            );
+            office.pass = left;
+            return answer;
+        }
         None => {}
     }
-    match spares.facts.list_of(What::Ticked(by)) {
+    match office.spares.facts.list_of(What::Ticked(by)) {
         Ok(happened) => {
-            state.tick(by);
-            let letters = List::new(spares.alloc());
+            office.state.tick(by);
+            let letters = List::new(office.spares.alloc());
             let act = Act { happened, letters };
-            finish(
+            let taken = Step::Tick { by };
+            let (left, answer) = finish(
                 rt,
                 wire,
                 pass,
-                number,
-                actor,
-                state,
-                spares,
-                Step::Tick { by },
+                office.number,
+                office.actor,
+                &office.state,
+                taken,
                 act,
-            )
+            );
+            office.pass = left;
+            answer
         }
-        Err(NoMemory) => {
-            drop(state);
-            drop(spares);
-            (None, Err(ClusterError::NoMemory))
-        }
+        Err(NoMemory) => Err(ClusterError::NoMemory),
     }
 }
 
@@ -83,45 +90,38 @@ pub fn revoke<B: Site<Plan>, R: Wait>(
     rt: &R,
     wire: &ClusterWire<B>,
     pass: &mut Pass,
-    office: Office<Authority, B>,
+    office: &mut Office<Authority, B>,
     cred: CredId,
-) -> Left<Authority, B>
+) -> Result<Place, ClusterError>
     requires ready { IsReady B.about.scenario B.table pass.old }
     requires exists { IsCred B.about.scenario cred }
     ensures site { pass.new.table ≡ B.table }
-    ensures answer { IsAnswer B.about.scenario pass.old (step.Revoke cred) result.1 pass.new }
+    ensures answer { IsAnswer B.about.scenario pass.old (step.Revoke cred) result pass.new }
 {
-    let Office {
-        number,
-        actor,
-        mut state,
-        pass: kept,
-        mut spares,
-        site: _,
-    } = office;
+    let Some(kept) = office.pass.take() else {
+        return Err(ClusterError::NoMemory);
+    };
     meet(wire, pass, kept);
-    match spares.facts.list_of(What::Revoked(cred)) {
+    match office.spares.facts.list_of(What::Revoked(cred)) {
         Ok(happened) => {
-            state.revoke(cred);
-            let letters = List::new(spares.alloc());
+            office.state.revoke(cred);
+            let letters = List::new(office.spares.alloc());
             let act = Act { happened, letters };
-            finish(
+            let taken = Step::Revoke { cred };
+            let (left, answer) = finish(
                 rt,
                 wire,
                 pass,
-                number,
-                actor,
-                state,
-                spares,
-                Step::Revoke { cred },
+                office.number,
+                office.actor,
+                &office.state,
+                taken,
                 act,
-            )
+            );
+            office.pass = left;
+            answer
         }
-        Err(NoMemory) => {
-            drop(state);
-            drop(spares);
-            (None, Err(ClusterError::NoMemory))
-        }
+        Err(NoMemory) => Err(ClusterError::NoMemory),
     }
 }
 
@@ -141,41 +141,36 @@ pub fn deliver<B: Site<Plan>, R: Wait>(
     rt: &R,
     wire: &ClusterWire<B>,
     pass: &mut Pass,
-    office: Office<Authority, B>,
+    office: &mut Office<Authority, B>,
     given: u64,
     mail: &Mail,
-) -> Left<Authority, B>
+) -> Result<Place, ClusterError>
     requires ready { IsReady B.about.scenario B.table pass.old }
     requires sent { slice_get (mails_in pass.old.view.seen) given ≡ Some mail.now }
     requires to { mail.now.letter.to ≡ actor.Authority }
     ensures site { pass.new.table ≡ B.table }
-    ensures answer { IsAnswer B.about.scenario pass.old (step.Deliver given) result.1 pass.new }
+    ensures answer { IsAnswer B.about.scenario pass.old (step.Deliver given) result pass.new }
 {
-    let Office {
-        number,
-        actor,
-        state,
-        pass: kept,
-        mut spares,
-        site: _,
-    } = office;
+    let Some(kept) = office.pass.take() else {
+        return Err(ClusterError::NoMemory);
+    };
     meet(wire, pass, kept);
-    match received(&mut spares, &state, mail) {
-        Ok(act) => finish(
-            rt,
-            wire,
-            pass,
-            number,
-            actor,
-            state,
-            spares,
-            Step::Deliver { mail: given },
-            act,
-        ),
-        Err(NoMemory) => {
-            drop(state);
-            drop(spares);
-            (None, Err(ClusterError::NoMemory))
+    match received(&mut office.spares, &office.state, mail) {
+        Ok(act) => {
+            let taken = Step::Deliver { mail: given };
+            let (left, answer) = finish(
+                rt,
+                wire,
+                pass,
+                office.number,
+                office.actor,
+                &office.state,
+                taken,
+                act,
+            );
+            office.pass = left;
+            answer
         }
+        Err(NoMemory) => Err(ClusterError::NoMemory),
     }
 }

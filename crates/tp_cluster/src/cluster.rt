@@ -126,12 +126,8 @@ impl<B: Site<Plan>> Cluster<B> {
         ensures answer { IsAnswer B.about.scenario pass.old (step.Tick by) result pass.new }
     {
         let mut guard = self.actors.authority.lock(rt);
-        let Some(office) = guard.take() else {
-            return Err(ClusterError::NoMemory);
-        };
-        let (left, answer) = authority::tick(rt, &self.wire, pass, office, by);
-        *guard = left;
-        answer
+        let office = &mut *guard;
+        authority::tick(rt, &self.wire, pass, office, by)
     }
 
     /// Revokes a credential. Answers the place of the step.
@@ -165,12 +161,8 @@ impl<B: Site<Plan>> Cluster<B> {
         ensures answer { IsAnswer B.about.scenario pass.old (step.Revoke cred) result pass.new }
     {
         let mut guard = self.actors.authority.lock(rt);
-        let Some(office) = guard.take() else {
-            return Err(ClusterError::NoMemory);
-        };
-        let (left, answer) = authority::revoke(rt, &self.wire, pass, office, cred);
-        *guard = left;
-        answer
+        let office = &mut *guard;
+        authority::revoke(rt, &self.wire, pass, office, cred)
     }
 
     /// Submits a transaction. Answers the place of the step, which is its age.
@@ -208,13 +200,9 @@ impl<B: Site<Plan>> Cluster<B> {
             return Err(ClusterError::NoMemory);
         };
         let mut guard = lock.lock(rt);
-        let Some(office) = guard.take() else {
-            return Err(ClusterError::NoMemory);
-        };
+        let office = &mut *guard;
         let scenario = &self.plan.scenario;
-        let (left, answer) = coordinators::submit(rt, &self.wire, scenario, pass, office, txn);
-        *guard = left;
-        answer
+        coordinators::submit(rt, &self.wire, scenario, pass, office, txn)
     }
 
     /// A transaction's timer fires. Answers the place of the step.
@@ -247,13 +235,9 @@ impl<B: Site<Plan>> Cluster<B> {
             return Err(ClusterError::NoMemory);
         };
         let mut guard = lock.lock(rt);
-        let Some(office) = guard.take() else {
-            return Err(ClusterError::NoMemory);
-        };
+        let office = &mut *guard;
         let scenario = &self.plan.scenario;
-        let (left, answer) = coordinators::timer(rt, &self.wire, scenario, pass, office, txn);
-        *guard = left;
-        answer
+        coordinators::timer(rt, &self.wire, scenario, pass, office, txn)
     }
 
     /// Publishes the next version of an administrator's policy. Answers the place of the step.
@@ -292,12 +276,8 @@ impl<B: Site<Plan>> Cluster<B> {
         ensures answer { IsAnswer B.about.scenario pass.old (step.Publish admin) result pass.new }
     {
         let mut guard = self.actors.master.lock(rt);
-        let Some(office) = guard.take() else {
-            return Err(ClusterError::NoMemory);
-        };
-        let (left, answer) = master::publish(rt, &self.wire, pass, office, admin);
-        *guard = left;
-        answer
+        let office = &mut *guard;
+        master::publish(rt, &self.wire, pass, office, admin)
     }
 
     /// Pushes the newest version of an administrator's policy to a server. Answers the place of the step.
@@ -338,12 +318,8 @@ impl<B: Site<Plan>> Cluster<B> {
         ensures answer { IsAnswer B.about.scenario pass.old (step.Push admin server) result pass.new }
     {
         let mut guard = self.actors.master.lock(rt);
-        let Some(office) = guard.take() else {
-            return Err(ClusterError::NoMemory);
-        };
-        let (left, answer) = master::push(rt, &self.wire, pass, office, admin, server);
-        *guard = left;
-        answer
+        let office = &mut *guard;
+        master::push(rt, &self.wire, pass, office, admin, server)
     }
 
     fn to_coordinator<R: Wait>(
@@ -365,15 +341,9 @@ impl<B: Site<Plan>> Cluster<B> {
             return Err(ClusterError::NoMemory);
         };
         let mut guard = lock.lock(rt);
-        let Some(office) = guard.take() else {
-            return Err(ClusterError::NoMemory);
-        };
+        let office = &mut *guard;
         let scenario = &self.plan.scenario;
-        let (left, answer) = coordinators::deliver(
-            rt, &self.wire, scenario, pass, office, txn, number, mail,
-        );
-        *guard = left;
-        answer
+        coordinators::deliver(rt, &self.wire, scenario, pass, office, txn, number, mail)
     }
 
     fn to_authority<R: Wait>(
@@ -390,12 +360,8 @@ impl<B: Site<Plan>> Cluster<B> {
         ensures answer { IsAnswer B.about.scenario pass.old (step.Deliver number) result pass.new }
     {
         let mut guard = self.actors.authority.lock(rt);
-        let Some(office) = guard.take() else {
-            return Err(ClusterError::NoMemory);
-        };
-        let (left, answer) = authority::deliver(rt, &self.wire, pass, office, number, mail);
-        *guard = left;
-        answer
+        let office = &mut *guard;
+        authority::deliver(rt, &self.wire, pass, office, number, mail)
     }
 
     fn to_master<R: Wait>(
@@ -412,12 +378,8 @@ impl<B: Site<Plan>> Cluster<B> {
         ensures answer { IsAnswer B.about.scenario pass.old (step.Deliver number) result pass.new }
     {
         let mut guard = self.actors.master.lock(rt);
-        let Some(office) = guard.take() else {
-            return Err(ClusterError::NoMemory);
-        };
-        let (left, answer) = master::deliver(rt, &self.wire, pass, office, number, mail);
-        *guard = left;
-        answer
+        let office = &mut *guard;
+        master::deliver(rt, &self.wire, pass, office, number, mail)
     }
 
     /// Delivers a mail to its actor. Of a server the gate is called first, under the server's lock.
@@ -511,16 +473,10 @@ impl<B: Site<Plan>> Cluster<B> {
             return Err(ClusterError::NoMemory);
         };
         let mut guard = lock.lock(rt);
-        let Some(office) = guard.take() else {
-            return Err(ClusterError::NoMemory);
-        };
+        let office = &mut *guard;
         gate.pass(at.0);
         let scenario = &self.plan.scenario;
-        let (left, answer) = servers::deliver(
-            rt, &self.wire, scenario, pass, office, at, number, mail,
-        );
-        *guard = left;
-        answer
+        servers::deliver(rt, &self.wire, scenario, pass, office, at, number, mail)
     }
 
     /// Closes the cluster, and gives the world of its history's steps. It compares nothing: the history is a run. With

@@ -1,5 +1,5 @@
 //! What a coordinator does under its lock.
-ghost use Rattle.std.specs.Prelude.{◌≡◌, IfOk, IsTrue, Some, [], slice_get};
+ghost use Rattle.std.specs.Prelude.{◌≡◌, IfOk, IfSome, IsTrue, Some, [], slice_get};
 ghost use Rattle.tp_machine.specs.Machine as machine;
 ghost use Rattle.tp_machine.specs.Named.{IsTxn};
 ghost use Rattle.tp_machine.specs.Fits.{AllFitLogs};
@@ -7,7 +7,8 @@ ghost use Rattle.tp_model.specs.Words.actor;
 ghost use Rattle.tp_model.specs.Words.step;
 ghost use Rattle.tp_wire.specs.Entries.{mails_in};
 ghost use Rattle.tp_cluster.specs.Calls.{IsAnswer, IsReady};
-ghost use Rattle.tp_cluster.specs.Offices.{Held};
+ghost use Rattle.tp_cluster.specs.Offices.{Held, IsOffice};
+ghost use Rattle.tp_cluster.specs.Offices.Held.{OfCoordinator};
 ghost use Rattle.tp_cluster.specs.mirrors.Meetings.{CanPlace, IsMet, untimed};
 ghost use Rattle.tp_machine.specs.Moves.{number_of};
 ghost use Rattle.tp_wire.specs.Passes.{Known};
@@ -16,13 +17,12 @@ use crate::error::ClusterError;
 use crate::meeting::{ClusterWire, Left, finish, meet, post, refuse};
 use crate::office::Office;
 use crate::plan::Plan;
-use std::marker::PhantomData;
 use std::sync::Wait;
 use tp_coord::Coordinator;
 use tp_machine::{
     Act, Nobody, Part, Spares, StepError, coordinator_begins, coordinator_takes, no_act,
 };
-use tp_types::{Actor, List, Mail, NoMemory, Reaction, Scenario, Step, TxnId};
+use tp_types::{Actor, List, Mail, NoMemory, Place, Reaction, Scenario, Step, TxnId};
 use tp_wire::{Pass, Site};
 
 /// Whether this is the coordinator of a transaction.
@@ -41,54 +41,50 @@ pub fn deliver<B: Site<Plan>, R: Wait>(
     wire: &ClusterWire<B>,
     scenario: &Scenario,
     pass: &mut Pass,
-    office: Office<Part<Coordinator>, B>,
+    office: &mut Office<Part<Coordinator>, B>,
     txn: TxnId,
     given: u64,
     mail: &Mail,
-) -> Left<Part<Coordinator>, B>
+) -> Result<Place, ClusterError>
     requires ready { IsReady B.about.scenario B.table pass.old }
     requires about { scenario.now ≡ B.about.scenario }
     requires fit { AllFitLogs B.about.scenario }
     requires sent { slice_get (mails_in pass.old.view.seen) given ≡ Some mail.now }
     requires to { mail.now.letter.to ≡ actor.Coordinator txn }
     ensures site { pass.new.table ≡ B.table }
-    ensures answer { IsAnswer B.about.scenario pass.old (step.Deliver given) result.1 pass.new }
+    ensures answer { IsAnswer B.about.scenario pass.old (step.Deliver given) result pass.new }
 {
-    let Office {
-        number,
-        actor,
-        mut state,
-        pass: kept,
-        mut spares,
-        site: _,
-    } = office;
-    match is_coordinator(actor, txn) {
-        false => {
-            drop(state);
-            drop(spares);
-            drop(kept);
-            return (None, Err(ClusterError::NoMemory));
-        }
+    match is_coordinator(office.actor, txn) {
+        false => return Err(ClusterError::NoMemory),
         true => {}
     }
+    let Some(kept) = office.pass.take() else {
+        return Err(ClusterError::NoMemory);
+    };
     meet(wire, pass, kept);
-    match coordinator_takes(&mut state, &mut spares, &mut Nobody, scenario, mail) {
-        Ok(act) => finish(
-            rt,
-            wire,
-            pass,
-            number,
-            actor,
-            state,
-            spares,
-            Step::Deliver { mail: given },
-            act,
-        ),
-        Err(NoMemory) => {
-            drop(state);
-            drop(spares);
-            (None, Err(ClusterError::NoMemory))
+    match coordinator_takes(
+        &mut office.state,
+        &mut office.spares,
+        &mut Nobody,
+        scenario,
+        mail,
+    ) {
+        Ok(act) => {
+            let taken = Step::Deliver { mail: given };
+            let (left, answer) = finish(
+                rt,
+                wire,
+                pass,
+                office.number,
+                office.actor,
+                &office.state,
+                taken,
+                act,
+            );
+            office.pass = left;
+            answer
         }
+        Err(NoMemory) => Err(ClusterError::NoMemory),
     }
 }
 
@@ -137,54 +133,58 @@ pub fn timer<B: Site<Plan>, R: Wait>(
     wire: &ClusterWire<B>,
     scenario: &Scenario,
     pass: &mut Pass,
-    office: Office<Part<Coordinator>, B>,
+    office: &mut Office<Part<Coordinator>, B>,
     txn: TxnId,
-) -> Left<Part<Coordinator>, B>
+) -> Result<Place, ClusterError>
     requires ready { IsReady B.about.scenario B.table pass.old }
     requires about { scenario.now ≡ B.about.scenario }
     requires exists { IsTxn B.about.scenario txn }
     ensures site { pass.new.table ≡ B.table }
-    ensures answer { IsAnswer B.about.scenario pass.old (step.Timer txn) result.1 pass.new }
+    ensures answer { IsAnswer B.about.scenario pass.old (step.Timer txn) result pass.new }
 {
-    let Office {
-        number,
-        actor,
-        state,
-        pass: kept,
-        mut spares,
-        site: _,
-    } = office;
-    match is_coordinator(actor, txn) {
-        false => {
-            drop(state);
-            drop(spares);
-            drop(kept);
-            return (None, Err(ClusterError::NoMemory));
-        }
+    match is_coordinator(office.actor, txn) {
+        false => return Err(ClusterError::NoMemory),
         true => {}
     }
+    let Some(kept) = office.pass.take() else {
+        return Err(ClusterError::NoMemory);
+    };
     meet(wire, pass, kept);
-    match untimed(&state, txn) {
-        Some(why) => return refuse(rt, wire, pass, number, actor, state, spares, why),
+    match untimed(&office.state, txn) {
+        Some(why) => {
+            let alloc = office.spares.alloc();
+            let (left, answer) = refuse(
+                rt,
+                alloc,
+                wire,
+                pass,
+                office.number,
+                office.actor,
+                &office.state,
+                why,
+            );
+            office.pass = left;
+            return answer;
+        }
         None => {}
     }
-    match repeats_of(&mut spares, scenario, &state) {
-        Ok(act) => finish(
-            rt,
-            wire,
-            pass,
-            number,
-            actor,
-            state,
-            spares,
-            Step::Timer { txn },
-            act,
-        ),
-        Err(NoMemory) => {
-            drop(state);
-            drop(spares);
-            (None, Err(ClusterError::NoMemory))
+    match repeats_of(&mut office.spares, scenario, &office.state) {
+        Ok(act) => {
+            let taken = Step::Timer { txn };
+            let (left, answer) = finish(
+                rt,
+                wire,
+                pass,
+                office.number,
+                office.actor,
+                &office.state,
+                taken,
+                act,
+            );
+            office.pass = left;
+            answer
         }
+        Err(NoMemory) => Err(ClusterError::NoMemory),
     }
 }
 
@@ -204,48 +204,67 @@ pub fn submit<B: Site<Plan>, R: Wait>(
     wire: &ClusterWire<B>,
     scenario: &Scenario,
     pass: &mut Pass,
-    office: Office<Part<Coordinator>, B>,
+    office: &mut Office<Part<Coordinator>, B>,
     txn: TxnId,
-) -> Left<Part<Coordinator>, B>
+) -> Result<Place, ClusterError>
     requires ready { IsReady B.about.scenario B.table pass.old }
     requires about { scenario.now ≡ B.about.scenario }
     requires fit { AllFitLogs B.about.scenario }
     requires exists { IsTxn B.about.scenario txn }
     ensures site { pass.new.table ≡ B.table }
-    ensures answer { IsAnswer B.about.scenario pass.old (step.Submit txn) result.1 pass.new }
+    ensures answer { IsAnswer B.about.scenario pass.old (step.Submit txn) result pass.new }
 {
-    let Office {
-        number,
-        actor,
-        mut state,
-        pass: kept,
-        mut spares,
-        site: _,
-    } = office;
-    match is_coordinator(actor, txn) {
-        false => {
-            drop(state);
-            drop(spares);
-            drop(kept);
-            return (None, Err(ClusterError::NoMemory));
-        }
+    match is_coordinator(office.actor, txn) {
+        false => return Err(ClusterError::NoMemory),
         true => {}
     }
+    let Some(kept) = office.pass.take() else {
+        return Err(ClusterError::NoMemory);
+    };
     meet(wire, pass, kept);
-    match is_submitted(&state) {
+    match is_submitted(&office.state) {
         true => {
             let why = StepError::AlreadySubmitted { txn };
-            return refuse(rt, wire, pass, number, actor, state, spares, why);
+            {
+                let alloc = office.spares.alloc();
+                let (left, answer) = refuse(
+                    rt,
+                    alloc,
+                    wire,
+                    pass,
+                    office.number,
+                    office.actor,
+                    &office.state,
+                    why,
+                );
+                office.pass = left;
+                return answer;
+            }
         }
         false => {}
     }
-    match coordinator_begins(&mut state, &mut spares, &mut Nobody, scenario, txn) {
-        Ok(act) => placed(rt, wire, pass, number, actor, state, spares, txn, act),
-        Err(NoMemory) => {
-            drop(state);
-            drop(spares);
-            (None, Err(ClusterError::NoMemory))
+    match coordinator_begins(
+        &mut office.state,
+        &mut office.spares,
+        &mut Nobody,
+        scenario,
+        txn,
+    ) {
+        Ok(act) => {
+            let (left, answer) = placed(
+                rt,
+                wire,
+                pass,
+                office.number,
+                office.actor,
+                &mut office.state,
+                txn,
+                act,
+            );
+            office.pass = left;
+            answer
         }
+        Err(NoMemory) => Err(ClusterError::NoMemory),
     }
 }
 
@@ -256,14 +275,14 @@ fn placed<B: Site<Plan>, R: Wait>(
     pass: &mut Pass,
     number: u32,
     actor: Actor,
-    mut state: Part<Coordinator>,
-    spares: Spares,
+    state: &mut Part<Coordinator>,
     txn: TxnId,
     act: Act,
-) -> Left<Part<Coordinator>, B>
+) -> Left
     requires number { number ≡ number_of B.about.scenario actor }
-    requires may { CanPlace B.about.scenario B.table actor state pass.old (step.Submit txn) act }
+    requires may { CanPlace B.about.scenario B.table actor state.old pass.old (step.Submit txn) act }
     ensures site { pass.new.table ≡ B.table }
+    ensures kept { IfSome result.0 (IsOffice B.about.scenario B.table actor (OfCoordinator state.new)) }
     ensures answer { (old : Known) (held : Held) → IsReady B.about.scenario B.table old
         → IsMet B.about.scenario B.table actor held old.view pass.old
         → IsAnswer B.about.scenario old (step.Submit txn) result.1 pass.new }
@@ -271,20 +290,8 @@ fn placed<B: Site<Plan>, R: Wait>(
     match post(rt, wire, pass, number, Step::Submit { txn }, act) {
         Ok((place, kept)) => {
             state.placed(place);
-            let office = Office {
-                number,
-                actor,
-                state,
-                pass: kept,
-                spares,
-                site: PhantomData,
-            };
-            (Some(office), Ok(place))
+            (Some(kept), Ok(place))
         }
-        Err(NoMemory) => {
-            drop(state);
-            drop(spares);
-            (None, Err(ClusterError::NoMemory))
-        }
+        Err(NoMemory) => (None, Err(ClusterError::NoMemory)),
     }
 }

@@ -9,13 +9,13 @@ ghost use Rattle.tp_wire.specs.Entries.{mails_in};
 ghost use Rattle.tp_cluster.specs.Calls.{IsAnswer, IsReady};
 
 use crate::error::ClusterError;
-use crate::meeting::{ClusterWire, Left, finish, meet, refuse};
+use crate::meeting::{ClusterWire, finish, meet, refuse};
 use crate::office::Office;
 use crate::plan::Plan;
 use std::sync::Wait;
 use tp_machine::{Act, Spares, StepError, alone};
 use tp_offices::{Master, NoMore};
-use tp_types::{AdminId, List, Mail, NoMemory, Reaction, ServerId, Step, What};
+use tp_types::{AdminId, List, Mail, NoMemory, Place, Reaction, ServerId, Step, What};
 use tp_wire::{Pass, Site};
 
 /// What happens as the master publishes the next version.
@@ -63,47 +63,56 @@ pub fn publish<B: Site<Plan>, R: Wait>(
     rt: &R,
     wire: &ClusterWire<B>,
     pass: &mut Pass,
-    office: Office<Master, B>,
+    office: &mut Office<Master, B>,
     admin: AdminId,
-) -> Left<Master, B>
+) -> Result<Place, ClusterError>
     requires ready { IsReady B.about.scenario B.table pass.old }
     requires exists { IsAdmin B.about.scenario admin }
     ensures site { pass.new.table ≡ B.table }
-    ensures answer { IsAnswer B.about.scenario pass.old (step.Publish admin) result.1 pass.new }
+    ensures answer { IsAnswer B.about.scenario pass.old (step.Publish admin) result pass.new }
 {
-    let Office {
-        number,
-        actor,
-        mut state,
-        pass: kept,
-        mut spares,
-        site: _,
-    } = office;
+    let Some(kept) = office.pass.take() else {
+        return Err(ClusterError::NoMemory);
+    };
     meet(wire, pass, kept);
-    match state.has_more(admin) {
+    match office.state.has_more(admin) {
         true => {}
         false => {
             let why = StepError::NoMore { admin };
-            return refuse(rt, wire, pass, number, actor, state, spares, why);
+            {
+                let alloc = office.spares.alloc();
+                let (left, answer) = refuse(
+                    rt,
+                    alloc,
+                    wire,
+                    pass,
+                    office.number,
+                    office.actor,
+                    &office.state,
+                    why,
+                );
+                office.pass = left;
+                return answer;
+            }
         }
     }
-    match published(&mut spares, &mut state, admin) {
-        Ok(act) => finish(
-            rt,
-            wire,
-            pass,
-            number,
-            actor,
-            state,
-            spares,
-            Step::Publish { admin },
-            act,
-        ),
-        Err(NoMemory) => {
-            drop(state);
-            drop(spares);
-            (None, Err(ClusterError::NoMemory))
+    match published(&mut office.spares, &mut office.state, admin) {
+        Ok(act) => {
+            let taken = Step::Publish { admin };
+            let (left, answer) = finish(
+                rt,
+                wire,
+                pass,
+                office.number,
+                office.actor,
+                &office.state,
+                taken,
+                act,
+            );
+            office.pass = left;
+            answer
         }
+        Err(NoMemory) => Err(ClusterError::NoMemory),
     }
 }
 
@@ -112,41 +121,36 @@ pub fn push<B: Site<Plan>, R: Wait>(
     rt: &R,
     wire: &ClusterWire<B>,
     pass: &mut Pass,
-    office: Office<Master, B>,
+    office: &mut Office<Master, B>,
     admin: AdminId,
     server: ServerId,
-) -> Left<Master, B>
+) -> Result<Place, ClusterError>
     requires ready { IsReady B.about.scenario B.table pass.old }
     requires exists { IsAdmin B.about.scenario admin × IsServer B.about.scenario server }
     ensures site { pass.new.table ≡ B.table }
-    ensures answer { IsAnswer B.about.scenario pass.old (step.Push admin server) result.1 pass.new }
+    ensures answer { IsAnswer B.about.scenario pass.old (step.Push admin server) result pass.new }
 {
-    let Office {
-        number,
-        actor,
-        state,
-        pass: kept,
-        mut spares,
-        site: _,
-    } = office;
+    let Some(kept) = office.pass.take() else {
+        return Err(ClusterError::NoMemory);
+    };
     meet(wire, pass, kept);
-    match pushed(&mut spares, &state, admin, server) {
-        Ok(act) => finish(
-            rt,
-            wire,
-            pass,
-            number,
-            actor,
-            state,
-            spares,
-            Step::Push { admin, server },
-            act,
-        ),
-        Err(NoMemory) => {
-            drop(state);
-            drop(spares);
-            (None, Err(ClusterError::NoMemory))
+    match pushed(&mut office.spares, &office.state, admin, server) {
+        Ok(act) => {
+            let taken = Step::Push { admin, server };
+            let (left, answer) = finish(
+                rt,
+                wire,
+                pass,
+                office.number,
+                office.actor,
+                &office.state,
+                taken,
+                act,
+            );
+            office.pass = left;
+            answer
         }
+        Err(NoMemory) => Err(ClusterError::NoMemory),
     }
 }
 
@@ -155,41 +159,36 @@ pub fn deliver<B: Site<Plan>, R: Wait>(
     rt: &R,
     wire: &ClusterWire<B>,
     pass: &mut Pass,
-    office: Office<Master, B>,
+    office: &mut Office<Master, B>,
     given: u64,
     mail: &Mail,
-) -> Left<Master, B>
+) -> Result<Place, ClusterError>
     requires ready { IsReady B.about.scenario B.table pass.old }
     requires sent { slice_get (mails_in pass.old.view.seen) given ≡ Some mail.now }
     requires to { mail.now.letter.to ≡ actor.Master }
     ensures site { pass.new.table ≡ B.table }
-    ensures answer { IsAnswer B.about.scenario pass.old (step.Deliver given) result.1 pass.new }
+    ensures answer { IsAnswer B.about.scenario pass.old (step.Deliver given) result pass.new }
 {
-    let Office {
-        number,
-        actor,
-        state,
-        pass: kept,
-        mut spares,
-        site: _,
-    } = office;
+    let Some(kept) = office.pass.take() else {
+        return Err(ClusterError::NoMemory);
+    };
     meet(wire, pass, kept);
-    match received(&mut spares, &state, mail) {
-        Ok(act) => finish(
-            rt,
-            wire,
-            pass,
-            number,
-            actor,
-            state,
-            spares,
-            Step::Deliver { mail: given },
-            act,
-        ),
-        Err(NoMemory) => {
-            drop(state);
-            drop(spares);
-            (None, Err(ClusterError::NoMemory))
+    match received(&mut office.spares, &office.state, mail) {
+        Ok(act) => {
+            let taken = Step::Deliver { mail: given };
+            let (left, answer) = finish(
+                rt,
+                wire,
+                pass,
+                office.number,
+                office.actor,
+                &office.state,
+                taken,
+                act,
+            );
+            office.pass = left;
+            answer
         }
+        Err(NoMemory) => Err(ClusterError::NoMemory),
     }
 }

@@ -1,6 +1,6 @@
 //! A caller's pass under an actor's lock: it takes the actor's pass in, does a step or is refused, and gives that pass
 //! back.
-ghost use Rattle.std.specs.Prelude.{◌≡◌, List, Some, false, IfOk};
+ghost use Rattle.std.specs.Prelude.{◌≡◌, List, Some, false, IfOk, IfSome};
 ghost use Rattle.tp_model.specs.Words.{Actor, Step};
 ghost use Rattle.tp_machine.specs.declared.error.StepError.{StepError};
 ghost use Rattle.tp_machine.specs.Machine.{refusal};
@@ -14,20 +14,19 @@ ghost use Rattle.tp_cluster.specs.Runs.{state_at};
 ghost use Rattle.tp_cluster.specs.mirrors.Meetings.{CanFinish, CanPost, Follows, HasPosted, HasTurned, IsMet};
 
 use crate::error::ClusterError;
-use crate::office::{Office, Officer};
+use crate::office::Officer;
 use crate::plan::{Plan, Runs};
 use std::alloc::Global;
-use std::marker::PhantomData;
 use std::sync::Wait;
-use tp_machine::{Act, Spares, StepError};
+use tp_machine::{Act, StepError};
 use tp_types::{Actor, NoMemory, Place, Step};
 use tp_wire::{Pass, Site, Wire};
 
 /// The history of a cluster.
 pub type ClusterWire<B> = Wire<Plan, Runs, B>;
 
-/// An actor's lock has this again, and this is what the call answers. Without it the actor is lost with the memory.
-pub type Left<S, B> = (Option<Office<S, B>>, Result<Place, ClusterError>);
+/// The actor has this pass again, and this is what the call answers. Without it the actor is lost with the memory.
+pub type Left = (Option<Pass>, Result<Place, ClusterError>);
 
 /// The caller's pass takes in the actor's, and looks: what is kept with the actor is then what the machine has of it.
 pub fn meet<B: Site<Plan>>(wire: &ClusterWire<B>, pass: &mut Pass, kept: Pass)
@@ -81,81 +80,54 @@ pub fn turn_back<B: Site<Plan>, R: Wait>(
     Ok(wire.give_back(pass, number))
 }
 
-/// The actor has acted: its step is posted, and it is left as it then is.
-pub fn finish<S: Officer + Drop, B: Site<Plan>, R: Wait>(
+/// The actor has acted, and is as it then is: its step is posted.
+pub fn finish<S: Officer, B: Site<Plan>, R: Wait>(
     rt: &R,
     wire: &ClusterWire<B>,
     pass: &mut Pass,
     number: u32,
     actor: Actor,
-    state: S,
-    spares: Spares,
+    state: &S,
     taken: Step,
     act: Act,
-) -> Left<S, B>
+) -> Left
     requires number { number ≡ number_of B.about.scenario actor }
-    requires may { CanFinish B.about.scenario B.table actor (S.held state) pass.old taken act }
+    requires may { CanFinish B.about.scenario B.table actor (S.held state.now) pass.old taken act }
     ensures site { pass.new.table ≡ B.table }
+    ensures kept { IfSome result.0 (IsOffice B.about.scenario B.table actor (S.held state.now)) }
     ensures answer { (old : Known) (held : Held) → IsReady B.about.scenario B.table old
         → IsMet B.about.scenario B.table actor held old.view pass.old
         → IsAnswer B.about.scenario old taken result.1 pass.new }
 {
     match post(rt, wire, pass, number, taken, act) {
-        Ok((place, kept)) => {
-            let office = Office {
-                number,
-                actor,
-                state,
-                pass: kept,
-                spares,
-                site: PhantomData,
-            };
-            (Some(office), Ok(place))
-        }
-        Err(NoMemory) => {
-            drop(state);
-            drop(spares);
-            (None, Err(ClusterError::NoMemory))
-        }
+        Ok((place, kept)) => (Some(kept), Ok(place)),
+        Err(NoMemory) => (None, Err(ClusterError::NoMemory)),
     }
 }
 
-/// The actor's step is refused: the caller sees the whole history, and the actor is left as it is.
-pub fn refuse<S: Officer + Drop, B: Site<Plan>, R: Wait>(
+/// The actor's step is refused, and it is as it was: the caller sees the whole history.
+pub fn refuse<S: Officer, B: Site<Plan>, R: Wait>(
     rt: &R,
+    alloc: Global,
     wire: &ClusterWire<B>,
     pass: &mut Pass,
     number: u32,
     actor: Actor,
-    state: S,
-    spares: Spares,
+    state: &S,
     why: StepError,
-) -> Left<S, B>
+) -> Left
     requires number { number ≡ number_of B.about.scenario actor }
-    requires met { (v : View) × IsMet B.about.scenario B.table actor (S.held state) v pass.old }
+    requires met { (v : View) × IsMet B.about.scenario B.table actor (S.held state.now) v pass.old }
     ensures site { pass.new.table ≡ B.table }
+    ensures kept { IfSome result.0 (IsOffice B.about.scenario B.table actor (S.held state.now)) }
     ensures answer { (old : Known) (held : Held) (taken : Step) → IsReady B.about.scenario B.table old
         → IsMet B.about.scenario B.table actor held old.view pass.old
         → ((log : List Entry) → Follows B.about.scenario pass.old.view log
         → refusal (state_at B.about.scenario log) taken ≡ Some why)
         → IsAnswer B.about.scenario old taken result.1 pass.new }
 {
-    match turn_back(rt, spares.alloc(), wire, pass, number) {
-        Ok(kept) => {
-            let office = Office {
-                number,
-                actor,
-                state,
-                pass: kept,
-                spares,
-                site: PhantomData,
-            };
-            (Some(office), Err(ClusterError::Refused(why)))
-        }
-        Err(NoMemory) => {
-            drop(state);
-            drop(spares);
-            (None, Err(ClusterError::NoMemory))
-        }
+    match turn_back(rt, alloc, wire, pass, number) {
+        Ok(kept) => (Some(kept), Err(ClusterError::Refused(why))),
+        Err(NoMemory) => (None, Err(ClusterError::NoMemory)),
     }
 }

@@ -41,19 +41,20 @@ impl Officer for Master {
 }
 
 /// What stands behind an actor's lock: what it has, the pass with its part of the history, and the memory that its
-/// steps lend one another. Contracts see it as the actor.
+/// steps lend one another. Without the pass the actor is lost with memory that was refused. Contracts see it as the
+/// actor.
 #[derive(Drop)]
 pub struct Office<S: Officer, B: Site<Plan>> {
     pub number: u32,
     pub actor: Actor,
     pub state: S,
-    pub pass: Pass,
+    pub pass: Option<Pass>,
     pub spares: Spares,
     pub site: PhantomData<B>,
 }
 
 impl<S: Officer, B: Site<Plan>> Model for Office<S, B> {
-    ghost use Rattle.std.specs.Prelude.{◌≡◌};
+    ghost use Rattle.std.specs.Prelude.{◌≡◌, IfSome};
     ghost use Rattle.tp_model.specs.Words.{Actor};
     ghost use Rattle.tp_machine.specs.Moves.{number_of};
     ghost use Rattle.tp_cluster.specs.Offices.{IsOffice};
@@ -62,5 +63,5 @@ impl<S: Officer, B: Site<Plan>> Model for Office<S, B> {
 
     ghost view = { λ o. o.actor };
 
-    ghost invariant = { λ o. (o.number ≡ number_of B.about.scenario o.actor) × IsOffice B.about.scenario B.table o.actor (S.held o.state) o.pass };
+    ghost invariant = { λ o. (o.number ≡ number_of B.about.scenario o.actor) × IfSome o.pass (IsOffice B.about.scenario B.table o.actor (S.held o.state)) };
 }

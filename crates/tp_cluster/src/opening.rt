@@ -25,8 +25,8 @@ use tp_types::{Actor, List, NoMemory, Scenario, ServerId, TryClone, TxnId};
 use tp_wire as wire;
 use tp_wire::{Pass, Site};
 
-/// An actor behind its lock. None is left of one that was lost with its memory.
-pub type Locked<S, B> = Mutex<Option<Office<S, B>>>;
+/// An actor behind its lock.
+pub type Locked<S, B> = Mutex<Office<S, B>>;
 
 /// A cluster that no type names yet. A caller makes one, names it as its `Site`, and opens the cluster on it.
 #[derive(Drop)]
@@ -142,14 +142,14 @@ impl<B: Site<Plan>> Dealer<B> {
         ensures { IfOk result (λ _. self.new ≡ self.old + 1) }
     {
         match self.next() {
-            Ok((number, pass)) => Ok(Mutex::new(Some(Office {
+            Ok((number, pass)) => Ok(Mutex::new(Office {
                 number,
                 actor,
                 state,
-                pass,
+                pass: Some(pass),
                 spares: Spares::new(alloc),
                 site: PhantomData,
-            }))),
+            })),
             Err(NoMemory) => {
                 drop(state);
                 Err(NoMemory)

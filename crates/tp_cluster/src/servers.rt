@@ -8,13 +8,13 @@ ghost use Rattle.tp_wire.specs.Entries.{mails_in};
 ghost use Rattle.tp_cluster.specs.Calls.{IsAnswer, IsReady};
 
 use crate::error::ClusterError;
-use crate::meeting::{ClusterWire, Left, finish, meet};
+use crate::meeting::{ClusterWire, finish, meet};
 use crate::office::Office;
 use crate::plan::Plan;
 use std::sync::Wait;
 use tp_machine::{Locks, Nobody, Part, server_takes};
 use tp_server::Server;
-use tp_types::{Actor, Mail, NoMemory, Scenario, ServerId, Step};
+use tp_types::{Actor, Mail, NoMemory, Place, Scenario, ServerId, Step};
 use tp_wire::{Pass, Site};
 
 /// Whether this is the server of a number.
@@ -33,11 +33,11 @@ pub fn deliver<B: Site<Plan>, R: Wait>(
     wire: &ClusterWire<B>,
     scenario: &Scenario,
     pass: &mut Pass,
-    office: Office<Part<Server<Locks>>, B>,
+    office: &mut Office<Part<Server<Locks>>, B>,
     at: ServerId,
     given: u64,
     mail: &Mail,
-) -> Left<Part<Server<Locks>>, B>
+) -> Result<Place, ClusterError>
     requires ready { IsReady B.about.scenario B.table pass.old }
     requires about { scenario.now ≡ B.about.scenario }
     requires valid { is_valid B.about.scenario ≡ true }
@@ -45,42 +45,39 @@ pub fn deliver<B: Site<Plan>, R: Wait>(
     requires sent { slice_get (mails_in pass.old.view.seen) given ≡ Some mail.now }
     requires to { mail.now.letter.to ≡ actor.Server at }
     ensures site { pass.new.table ≡ B.table }
-    ensures answer { IsAnswer B.about.scenario pass.old (step.Deliver given) result.1 pass.new }
+    ensures answer { IsAnswer B.about.scenario pass.old (step.Deliver given) result pass.new }
 {
-    let Office {
-        number,
-        actor,
-        mut state,
-        pass: kept,
-        mut spares,
-        site: _,
-    } = office;
-    match is_server(actor, at) {
-        false => {
-            drop(state);
-            drop(spares);
-            drop(kept);
-            return (None, Err(ClusterError::NoMemory));
-        }
+    match is_server(office.actor, at) {
+        false => return Err(ClusterError::NoMemory),
         true => {}
     }
+    let Some(kept) = office.pass.take() else {
+        return Err(ClusterError::NoMemory);
+    };
     meet(wire, pass, kept);
-    match server_takes(&mut state, &mut spares, &mut Nobody, scenario, at, mail) {
-        Ok(act) => finish(
-            rt,
-            wire,
-            pass,
-            number,
-            actor,
-            state,
-            spares,
-            Step::Deliver { mail: given },
-            act,
-        ),
-        Err(NoMemory) => {
-            drop(state);
-            drop(spares);
-            (None, Err(ClusterError::NoMemory))
+    match server_takes(
+        &mut office.state,
+        &mut office.spares,
+        &mut Nobody,
+        scenario,
+        at,
+        mail,
+    ) {
+        Ok(act) => {
+            let taken = Step::Deliver { mail: given };
+            let (left, answer) = finish(
+                rt,
+                wire,
+                pass,
+                office.number,
+                office.actor,
+                &office.state,
+                taken,
+                act,
+            );
+            office.pass = left;
+            answer
         }
+        Err(NoMemory) => Err(ClusterError::NoMemory),
     }
 }

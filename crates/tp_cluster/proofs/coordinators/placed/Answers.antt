@@ -9,17 +9,15 @@ use Rattle.tp_cluster.proofs.coordinators.placed.Goals as goal
 pub post-requires : goal.post-requires
 post-requires g c =
     let r = c.requires.may in
-    let new : ℕ → Held = (λ place. OfCoordinator (placed_part place c.args.state)) in
+    let new : ℕ → Held = (λ place. OfCoordinator (placed_part place c.args.state.now)) in
     can_post g.B.Site.about.scenario g.B.Site.table c.args.actor r.held r.view c.args.pass.now r.met_is (step.Submit c.args.txn) new c.args.act r.may
 
-pub invariant_of-office : goal.invariant_of-office
-invariant_of-office g c =
+pub returns-in-Ok-clause-kept : goal.returns-in-Ok-clause-kept
+returns-in-Ok-clause-kept g c =
     let r = c.requires.may in
-    let new : ℕ → Held = (λ place. OfCoordinator (placed_part place c.args.state)) in (
-      c.requires.number,
-      office_after g.B.Site.about.scenario g.B.Site.table c.args.actor r.held r.view c.args.pass.now r.met_is (step.Submit c.args.txn) new c.args.act r.may
-          c.args.number c.in-Ok.place c.post.new.pass c.in-Ok.kept c.requires.number c.in-Ok.ensures.ok (OfCoordinator c.placed.new.self) (ap OfCoordinator c.placed.ensures),
-    )
+    let new : ℕ → Held = (λ place. OfCoordinator (placed_part place c.args.state.now)) in
+    office_after g.B.Site.about.scenario g.B.Site.table c.args.actor r.held r.view c.args.pass.now r.met_is (step.Submit c.args.txn) new c.args.act r.may
+    c.args.number c.in-Ok.place c.post.new.pass c.in-Ok.kept c.requires.number c.in-Ok.ensures.ok (OfCoordinator c.placed.new.self) (ap OfCoordinator c.placed.ensures)
 
 pub returns-in-Ok-clause-answer : goal.returns-in-Ok-clause-answer
 returns-in-Ok-clause-answer g c = λ old held ready m.
@@ -27,7 +25,7 @@ returns-in-Ok-clause-answer g c = λ old held ready m.
     let sc = g.B.Site.about.scenario in
     let table = g.B.Site.table in
     let met = c.args.pass.now in
-    let new : ℕ → Held = (λ place. OfCoordinator (placed_part place c.args.state)) in
+    let new : ℕ → Held = (λ place. OfCoordinator (placed_part place c.args.state.now)) in
     let done = c.in-Ok.ensures.ok in
     record {
       was_live = ready.live;

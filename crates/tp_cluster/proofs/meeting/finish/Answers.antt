@@ -6,15 +6,14 @@ use Rattle.tp_cluster.proofs.meeting.finish.Goals as goal
 pub post-requires : goal.post-requires
 post-requires g c =
     let r = c.requires.may in
-    can_post g.B.Site.about.scenario g.B.Site.table c.args.actor r.held r.view c.args.pass.now r.met_is c.args.taken (λ _. g.S.Officer.held c.args.state) c.args.act r.may
+    can_post g.B.Site.about.scenario g.B.Site.table c.args.actor r.held r.view c.args.pass.now r.met_is c.args.taken (λ _. g.S.Officer.held c.args.state.now) c.args.act r.may
 
-pub invariant_of-office : goal.invariant_of-office
-invariant_of-office g c =
-    let r = c.requires.may in (
-      c.requires.number,
-      office_after g.B.Site.about.scenario g.B.Site.table c.args.actor r.held r.view c.args.pass.now r.met_is c.args.taken (λ _. g.S.Officer.held c.args.state) c.args.act r.may
-          c.args.number c.in-Ok.place c.post.new.pass c.in-Ok.kept c.requires.number c.in-Ok.ensures.ok (g.S.Officer.held c.args.state) refl,
-    )
+pub returns-in-Ok-clause-kept : goal.returns-in-Ok-clause-kept
+returns-in-Ok-clause-kept g c =
+    let r = c.requires.may in
+    let held = g.S.Officer.held c.args.state.now in
+    office_after g.B.Site.about.scenario g.B.Site.table c.args.actor r.held r.view c.args.pass.now r.met_is c.args.taken (λ _. held) c.args.act r.may
+    c.args.number c.in-Ok.place c.post.new.pass c.in-Ok.kept c.requires.number c.in-Ok.ensures.ok held refl
 
 pub returns-in-Ok-clause-answer : goal.returns-in-Ok-clause-answer
 returns-in-Ok-clause-answer g c = λ old held ready m.
@@ -22,7 +21,7 @@ returns-in-Ok-clause-answer g c = λ old held ready m.
     let sc = g.B.Site.about.scenario in
     let table = g.B.Site.table in
     let met = c.args.pass.now in
-    let new : ℕ → Held = (λ _. g.S.Officer.held c.args.state) in
+    let new : ℕ → Held = (λ _. g.S.Officer.held c.args.state.now) in
     let done = c.in-Ok.ensures.ok in
     record {
       was_live = ready.live;

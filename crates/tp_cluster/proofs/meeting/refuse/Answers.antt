@@ -1,12 +1,10 @@
 use Rattle.tp_cluster.proofs.MeetingLemmas.{office_again, turned_caller, turned_live, turned_step}
 use Rattle.tp_cluster.proofs.meeting.refuse.Goals as goal
 
-pub invariant_of-office : goal.invariant_of-office
-invariant_of-office g c =
-    let r = c.requires.met in (
-      c.requires.number,
-      office_again g.B.Site.about.scenario g.B.Site.table c.args.actor (g.S.Officer.held c.args.state) r.0 c.args.pass.now r.1 c.args.number c.turn_back.new.pass c.in-Ok.kept c.requires.number c.in-Ok.ensures.ok,
-    )
+pub returns-in-Ok-clause-kept : goal.returns-in-Ok-clause-kept
+returns-in-Ok-clause-kept g c =
+    let r = c.requires.met in
+    office_again g.B.Site.about.scenario g.B.Site.table c.args.actor (g.S.Officer.held c.args.state.now) r.0 c.args.pass.now r.1 c.args.number c.turn_back.new.pass c.in-Ok.kept c.requires.number c.in-Ok.ensures.ok
 
 pub returns-in-Ok-clause-answer : goal.returns-in-Ok-clause-answer
 returns-in-Ok-clause-answer g c = λ old held taken ready m refused.
