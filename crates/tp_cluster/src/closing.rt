@@ -39,19 +39,20 @@ fn gather<S: Officer + Drop, B: Site<Plan>>(
 ) -> Result<u32, NoMemory>
     ensures { IfOk result (λ next. AreGathered B.table number next passes.old passes.new) }
 {
+    let office = lock.into_inner();
     let Office {
         number: own,
         pass,
         ..
-    } = lock.into_inner();
-    let (Some(pass), Some(next)) = (pass, number.checked_add(1)) else {
+    } = office;
+    let (Some(kept), Some(next)) = (pass, number.checked_add(1)) else {
         return Err(NoMemory);
     };
     // a list of locks does not say which actor is behind which
     if own != number {
         return Err(NoMemory);
     }
-    passes.push(pass)?;
+    passes.push(kept)?;
     Ok(next)
 }
 

@@ -10,9 +10,14 @@ use Rattle.tp_cluster.specs.Offices.{held_at}
 use Rattle.tp_cluster.specs.Offices.Held.{OfCoordinator}
 use Rattle.tp_cluster.specs.Runs.{state_at}
 use Rattle.tp_cluster.proofs.DeliveryLemmas.{sent_later}
-use Rattle.tp_cluster.proofs.MeetingLemmas.{held_later}
+use Rattle.tp_cluster.proofs.MeetingLemmas.{held_later, kept_is}
 use Rattle.tp_cluster.proofs.RowLemmas.{by_name, coordinator_acted, coordinator_fits}
 use Rattle.tp_cluster.proofs.coordinators.deliver.Goals as goal
+
+pub meet-requires-clause-kept : goal.meet-requires-clause-kept
+meet-requires-clause-kept g c =
+    let kept = kept_is g.B.Site.about.scenario g.B.Site.table c.office.inside.actor (OfCoordinator c.office.inside.state) c.office.inside.pass c.in-Some.kept c.office.invariant.1 c.in-Some.ensures.value in
+    (kept.site, kept.live)
 
 pub coordinator_takes-requires : goal.coordinator_takes-requires
 coordinator_takes-requires g c =
@@ -23,7 +28,7 @@ coordinator_takes-requires g c =
     let txn = c.args.txn in
     let met = c.meet.new.pass in
     let v = c.args.pass.now.view in
-    let m = c.meet.ensures.met who held c.office.invariant.1 in
+    let m = c.meet.ensures.met who held (kept_is g.B.Site.about.scenario g.B.Site.table who held c.office.inside.pass c.in-Some.kept c.office.invariant.1 c.in-Some.ensures.value) in
     let is : who ≡ actor.Coordinator txn = c.in-true.ensures refl in
     let mail = c.args.mail.now in
     let here = subst (λ (x : Actor). held_at (state_at sc met.view.seen).actors x ≡ Some held) is (held_later sc g.B.Site.table who held v met m met.view.seen m.follows) in
@@ -31,8 +36,8 @@ coordinator_takes-requires g c =
       fits = subst (λ (s : Scenario). HasShortLog (coordinator_takes s part mail).part) (sym c.requires.about) (coordinator_fits sc met.view.seen c.args.given mail txn part c.requires.fit m.follows.lawful here (sent_later sc g.B.Site.table who held v met m c.args.given mail c.requires.sent met.view.seen m.follows) c.requires.to);
     }
 
-pub finish-requires-clause-may : goal.finish-requires-clause-may
-finish-requires-clause-may g c =
+pub finish-left-requires-clause-may : goal.finish-left-requires-clause-may
+finish-left-requires-clause-may g c =
     let sc = g.B.Site.about.scenario in
     let who = c.office.inside.actor in
     let part = c.office.inside.state in
@@ -40,7 +45,7 @@ finish-requires-clause-may g c =
     let txn = c.args.txn in
     let met = c.meet.new.pass in
     let v = c.args.pass.now.view in
-    let m = c.meet.ensures.met who held c.office.invariant.1 in
+    let m = c.meet.ensures.met who held (kept_is g.B.Site.about.scenario g.B.Site.table who held c.office.inside.pass c.in-Some.kept c.office.invariant.1 c.in-Some.ensures.value) in
     let is : who ≡ actor.Coordinator txn = c.in-true.ensures refl in
     let mail = c.args.mail.now in
     let new = c.coordinator_takes.new.part in
@@ -60,4 +65,4 @@ pub returns-in-Ok-clause-answer : goal.returns-in-Ok-clause-answer
 returns-in-Ok-clause-answer g c =
     let who = c.office.inside.actor in
     let held = OfCoordinator c.office.inside.state in
-    c.finish.ensures.answer c.args.pass.now held c.requires.ready (c.meet.ensures.met who held c.office.invariant.1)
+    c.finish-left.ensures.answer c.args.pass.now held c.requires.ready (c.meet.ensures.met who held (kept_is g.B.Site.about.scenario g.B.Site.table who held c.office.inside.pass c.in-Some.kept c.office.invariant.1 c.in-Some.ensures.value))

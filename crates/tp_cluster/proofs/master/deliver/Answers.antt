@@ -4,18 +4,23 @@ use Rattle.tp_model.specs.Words.step
 use Rattle.tp_cluster.specs.Offices.Held.{OfMaster}
 use Rattle.tp_cluster.specs.Runs.{state_at}
 use Rattle.tp_cluster.proofs.DeliveryLemmas.{sent_later}
-use Rattle.tp_cluster.proofs.MeetingLemmas.{held_later}
+use Rattle.tp_cluster.proofs.MeetingLemmas.{held_later, kept_is}
 use Rattle.tp_cluster.proofs.RowLemmas.{by_name, master_acted, is_master}
 use Rattle.tp_cluster.proofs.master.deliver.Goals as goal
 
-pub finish-requires-clause-may : goal.finish-requires-clause-may
-finish-requires-clause-may g c =
+pub meet-requires-clause-kept : goal.meet-requires-clause-kept
+meet-requires-clause-kept g c =
+    let kept = kept_is g.B.Site.about.scenario g.B.Site.table c.office.inside.actor (OfMaster c.office.inside.state) c.office.inside.pass c.in-Some.kept c.office.invariant.1 c.in-Some.ensures.value in
+    (kept.site, kept.live)
+
+pub finish-left-requires-clause-may : goal.finish-left-requires-clause-may
+finish-left-requires-clause-may g c =
     let sc = g.B.Site.about.scenario in
     let who = c.office.inside.actor in
     let held = OfMaster c.office.inside.state in
     let v = c.args.pass.now.view in
     let met = c.meet.new.pass in
-    let m = c.meet.ensures.met who held c.office.invariant.1 in
+    let m = c.meet.ensures.met who held (kept_is g.B.Site.about.scenario g.B.Site.table who held c.office.inside.pass c.in-Some.kept c.office.invariant.1 c.in-Some.ensures.value) in
     let state = c.office.inside.state in
     let act = c.in-Ok.act in
     let mail = c.args.mail.now in
@@ -33,4 +38,4 @@ pub returns-in-Ok-clause-answer : goal.returns-in-Ok-clause-answer
 returns-in-Ok-clause-answer g c =
     let who = c.office.inside.actor in
     let held = OfMaster c.office.inside.state in
-    c.finish.ensures.answer c.args.pass.now held c.requires.ready (c.meet.ensures.met who held c.office.invariant.1)
+    c.finish-left.ensures.answer c.args.pass.now held c.requires.ready (c.meet.ensures.met who held (kept_is g.B.Site.about.scenario g.B.Site.table who held c.office.inside.pass c.in-Some.kept c.office.invariant.1 c.in-Some.ensures.value))

@@ -12,9 +12,14 @@ use Rattle.tp_cluster.specs.Offices.{held_at}
 use Rattle.tp_cluster.specs.Offices.Held.{OfServer}
 use Rattle.tp_cluster.specs.Runs.{state_at}
 use Rattle.tp_cluster.proofs.DeliveryLemmas.{sent_later}
-use Rattle.tp_cluster.proofs.MeetingLemmas.{held_later}
+use Rattle.tp_cluster.proofs.MeetingLemmas.{held_later, kept_is}
 use Rattle.tp_cluster.proofs.RowLemmas.{by_name, server_acted, server_fits}
 use Rattle.tp_cluster.proofs.servers.deliver.Goals as goal
+
+pub meet-requires-clause-kept : goal.meet-requires-clause-kept
+meet-requires-clause-kept g c =
+    let kept = kept_is g.B.Site.about.scenario g.B.Site.table c.office.inside.actor (OfServer c.office.inside.state) c.office.inside.pass c.in-Some.kept c.office.invariant.1 c.in-Some.ensures.value in
+    (kept.site, kept.live)
 
 pub server_takes-requires-clause-few : goal.server_takes-requires-clause-few
 server_takes-requires-clause-few g c =
@@ -30,14 +35,14 @@ server_takes-requires-clause-fits g c =
     let mail = c.args.mail.now in
     let met = c.meet.new.pass in
     let v = c.args.pass.now.view in
-    let m = c.meet.ensures.met who held c.office.invariant.1 in
+    let m = c.meet.ensures.met who held (kept_is g.B.Site.about.scenario g.B.Site.table who held c.office.inside.pass c.in-Some.kept c.office.invariant.1 c.in-Some.ensures.value) in
     let is : who ≡ actor.Server at = c.in-true.ensures refl in
     let here = subst (λ (x : Actor). held_at (state_at sc met.view.seen).actors x ≡ Some held) is (held_later sc g.B.Site.table who held v met m met.view.seen m.follows) in
     subst (λ (s : Scenario). HasShortLog (server_takes s at part mail).part) (sym c.requires.about)
     (server_fits sc met.view.seen c.args.given mail at part c.requires.fit m.follows.lawful here (sent_later sc g.B.Site.table who held v met m c.args.given mail c.requires.sent met.view.seen m.follows) c.requires.to)
 
-pub finish-requires-clause-may : goal.finish-requires-clause-may
-finish-requires-clause-may g c =
+pub finish-left-requires-clause-may : goal.finish-left-requires-clause-may
+finish-left-requires-clause-may g c =
     let sc = g.B.Site.about.scenario in
     let who = c.office.inside.actor in
     let part = c.office.inside.state in
@@ -46,7 +51,7 @@ finish-requires-clause-may g c =
     let mail = c.args.mail.now in
     let met = c.meet.new.pass in
     let v = c.args.pass.now.view in
-    let m = c.meet.ensures.met who held c.office.invariant.1 in
+    let m = c.meet.ensures.met who held (kept_is g.B.Site.about.scenario g.B.Site.table who held c.office.inside.pass c.in-Some.kept c.office.invariant.1 c.in-Some.ensures.value) in
     let is : who ≡ actor.Server at = c.in-true.ensures refl in
     let new = c.server_takes.new.part in
     let act = c.in-Ok.act in
@@ -65,4 +70,4 @@ pub returns-in-Ok-clause-answer : goal.returns-in-Ok-clause-answer
 returns-in-Ok-clause-answer g c =
     let who = c.office.inside.actor in
     let held = OfServer c.office.inside.state in
-    c.finish.ensures.answer c.args.pass.now held c.requires.ready (c.meet.ensures.met who held c.office.invariant.1)
+    c.finish-left.ensures.answer c.args.pass.now held c.requires.ready (c.meet.ensures.met who held (kept_is g.B.Site.about.scenario g.B.Site.table who held c.office.inside.pass c.in-Some.kept c.office.invariant.1 c.in-Some.ensures.value))
