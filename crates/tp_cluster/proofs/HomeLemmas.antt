@@ -1,6 +1,6 @@
 -- The passes that are taken home from the actors.
 use Rattle.std.proofs.Common.{◌≡◌, ℕ, ◌+◌, ◌<◌, ◌≤◌, ◌≢◌, ◌⊎◌, inl, inr, List, [], ◌∷◌, ◌++◌, length, map, refl, sym, ap, ◌∙◌, subst, append-nil, append_assoc, length-append, arith}
-use Rattle.std.specs.Prelude.{◌==◌, Bool, true, false}
+use Rattle.std.specs.Prelude.{◌==◌, Bool, IfSome, None, Option, Some, true, false}
 use Rattle.std.proofs.lemmas.Bool.Decides.{nat_tests}
 use Rattle.atomic_table.specs.Seated.{TableId}
 use Rattle.tp_model.specs.Words.{Actor, Scenario}
@@ -24,6 +24,12 @@ office_home sc table who held kept number office is = record {
   number_is = office.number_is ∙ sym is;
   took = office.took;
 }
+
+-- so it is, if it stands there, where the actor has this number
+pub passes_home : (sc : Scenario) (table : TableId) (who : Actor) (held : Held) (number own : ℕ) (stood : Option Known)
+    → IfSome stood (IsOffice sc table who held) → own ≡ number_of sc who → own ≡ number → IfSome stood (IsHome table number)
+passes_home sc table who held number own (Some kept) office is same = office_home sc table who held kept number office (sym same ∙ is)
+passes_home sc table who held number own None office is same = tt
 
 pub none_gathered : (table : TableId) (number : ℕ) (old : List Known) → AreGathered table number number old old
 none_gathered table number old = record { homes = []; new_is = sym (append-nil old); home = tt; count = omega arith }

@@ -1,5 +1,5 @@
 //! The world of a closed history.
-ghost use Rattle.std.specs.Prelude.{◌≡◌, ◌≢◌, ◌≤◌, List, length, false, true, IfOk};
+ghost use Rattle.std.specs.Prelude.{◌≡◌, ◌≢◌, ◌≤◌, List, length, false, true, IfOk, IfSome};
 ghost use Rattle.tp_types.specs.Each.{Each};
 ghost use Rattle.tp_machine.specs.declared.error.StepError.TheVariants as StepError;
 ghost use Rattle.tp_machine.specs.Machine.{after};
@@ -9,7 +9,7 @@ ghost use Rattle.tp_wire.specs.Entries.{steps_in};
 ghost use Rattle.tp_wire.specs.History.{Lawful};
 ghost use Rattle.tp_wire.specs.Passes.{Known};
 ghost use Rattle.tp_cluster.specs.Runs.{IsNext, actors_of};
-ghost use Rattle.tp_cluster.specs.mirrors.Homes.{AreGathered};
+ghost use Rattle.tp_cluster.specs.mirrors.Homes.{AreGathered, IsHome};
 
 use crate::office::{Office, Officer};
 use crate::opening::{Actors, Locked};
@@ -31,6 +31,23 @@ pub fn any_given_up(passes: &List<Pass>) -> bool
     false
 }
 
+/// The pass kept behind this lock, if it is that of the actor of this number. A list of locks does not say which actor is
+/// behind which.
+fn kept_pass<S: Officer + Drop, B: Site<Plan>>(lock: Locked<S, B>, number: u32) -> Option<Pass>
+    ensures { IfSome result (IsHome B.table number) }
+{
+    let office = lock.into_inner();
+    let Office {
+        number: own,
+        pass,
+        ..
+    } = office;
+    if own != number {
+        return None;
+    }
+    pass
+}
+
 /// Adds the pass of the actor of this number, which is kept behind this lock.
 fn gather<S: Officer + Drop, B: Site<Plan>>(
     passes: &mut List<Pass>,
@@ -39,21 +56,16 @@ fn gather<S: Officer + Drop, B: Site<Plan>>(
 ) -> Result<u32, NoMemory>
     ensures { IfOk result (λ next. AreGathered B.table number next passes.old passes.new) }
 {
-    let office = lock.into_inner();
-    let Office {
-        number: own,
-        pass,
-        ..
-    } = office;
-    let (Some(kept), Some(next)) = (pass, number.checked_add(1)) else {
+    let Some(next) = number.checked_add(1) else {
         return Err(NoMemory);
     };
-    // a list of locks does not say which actor is behind which
-    if own != number {
-        return Err(NoMemory);
+    match kept_pass(lock, number) {
+        None => Err(NoMemory),
+        Some(kept) => {
+            passes.push(kept)?;
+            Ok(next)
+        }
     }
-    passes.push(kept)?;
-    Ok(next)
 }
 
 /// Adds the passes of actors, of which the first has this number. Answers the number behind theirs.
