@@ -16,14 +16,17 @@
 //!   (`answer` of `Cluster::submit`, `tick`, `revoke`, `publish`, `push`, `timer` and `deliver`: `IsDone`)
 //! - A refusal is the machine's, after the whole history that the pass has then seen, which is no shorter than it had
 //!   been told (`answer`: `IsTurned`)
-//! - After NoMemory the pass is given up, and then answers nothing else (`memory`, and `was_live` of both). Other
-//!   passes go on, but the actor whose lock was held may be lost: its calls then answer NoMemory
+//! - After NoMemory the pass is given up, and then answers nothing else (`memory`, and `was_live` of both)
 //! - A look and a take answer as a wire's (`Cluster::seen`; `take`: `seen`, `some`, `none`), and a take leaves the
 //!   caller's pass one (`caller`)
 //! - A closed cluster is the world of its history's steps, without any comparison. The wire's closing tells what the
 //!   passes of callers and actors saw, did and took: each step is of one actor and of one caller, the actors took no
 //!   mail, and where the passes of all callers are given, all mails up to where a pass was cleared were taken by these
 //!   (`Cluster::close`: `closed`, `live`)
+//!
+//! By the bodies, and no contract's: after NoMemory of one pass others go on, but the actor whose lock was held may be
+//! lost, and its calls then answer NoMemory; a delivery to a server calls the gate once, under the server's lock and
+//! before the server acts.
 //!
 //! Not claimed: that a call which takes a lock returns.
 #![tactic(auto)]
