@@ -3,7 +3,7 @@ use crate::scenarios::{FIRST, LISTED, raced_freely};
 use tp_race::Status;
 
 /// What a race of the first scenario prints, in which nobody has a script: all comes by itself.
-const PRINTED: &str = "race 1
+pub const PRINTED: &str = "race 1
 step submit t1
 step deliver 0
 step deliver 1

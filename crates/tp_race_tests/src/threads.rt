@@ -1,7 +1,8 @@
-//! Two servers that are held until the other one acts. On one thread, or with one lock round all actors, each of these
-//! fails.
-use crate::gates::Held;
-use crate::scenarios::{APART, raced};
+//! Two servers that are held until the other one acts, and one to which two clients come. On one thread these holds are
+//! given up, and so are those of two servers with one lock round all actors, unless it is taken behind the gate: then two
+//! meet at the one server.
+use crate::gates::{Counted, Held, Narrow};
+use crate::scenarios::{ALONE, APART, MEETING, raced};
 use std::process::Abort;
 use std::str;
 use tp_race::Status;
@@ -40,4 +41,22 @@ fn second_server_is_held(rt: HostRuntime) {
     let held = place_of(&rt, ended.out.bytes(), " commit t1 ");
     let other = place_of(&rt, ended.out.bytes(), " commit t0 ");
     assert!(rt; other < held);
+}
+
+// A gate that is called outside the server's lock is passed by two at a time.
+#[test]
+fn server_is_passed_by_one_at_a_time(rt: HostRuntime) {
+    let gate = Narrow::new();
+    let ended = raced(&rt, &[], MEETING, &gate);
+    assert!(rt; ended.status == Status::Done);
+    assert!(rt; gate.was_passed_alone());
+}
+
+// Of the eight mails of the first scenario the server gets the query, the call to prepare, and the decision.
+#[test]
+fn each_act_passes_once(rt: HostRuntime) {
+    let gate = Counted::new();
+    let ended = raced(&rt, &[], ALONE, &gate);
+    assert!(rt; ended.status == Status::Done);
+    assert!(rt; gate.count() == 3);
 }
