@@ -1,0 +1,1 @@
+"""Scenarios at the ends of all limits."""
