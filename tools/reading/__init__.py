@@ -1,1 +1,1 @@
-"""Which files of specs a reader has to read for a clause of a contract."""
+"""Which files of specs a reader has to read for a clause of a contract, and which calls are public."""
