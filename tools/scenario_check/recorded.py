@@ -42,6 +42,10 @@ def cases():
     for name, line in lines_of("evaluations.txt"):
         answer, _, text = line.partition("\t")
         yield Case(name, answer.replace("\\n", "\n"), text.encode())
+    for name, line in lines_of("bytes.txt"):
+        answer, _, text = line.partition("\t")
+        # where there is no report, a byte 0 and the status stand before the refusal
+        yield Case(name, unescaped(answer).lstrip(b"\0\1").decode(), unescaped(text))
     for _, line in lines_of("runs.txt"):
         named, status, *words = line.split()
         if words == ["run"]:

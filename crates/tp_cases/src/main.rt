@@ -2,6 +2,7 @@
 #![tactic(auto)]
 
 mod locks;
+mod logs;
 mod policies;
 mod readings;
 mod rounds;
@@ -23,6 +24,12 @@ use traces::Law;
 enum Kind {
     /// A call of the program, with its files.
     Run,
+    /// A call of the program of which a call of a stream fails.
+    Fault,
+    /// A scenario whose bytes are spelled, and how its run ends.
+    Bytes,
+    /// A log, and what is found on it.
+    Log,
     /// A scenario, and the report of its run.
     Evaluation,
     /// A scenario, and what it says or why it is refused.
@@ -45,12 +52,19 @@ fn separator(kind: Kind) -> &'static str {
     }
 }
 
+/// How the run of a scenario ends whose bytes are spelled.
+fn run_of(alloc: Global, spelled: &str) -> Result<Vec<u8>, NoMemory> {
+    let scenario = unescaped(alloc, spelled)?;
+    runs::answer(alloc, "run", scenario.as_slice())
+}
+
 /// What is answered for what a case gives.
 fn answer(alloc: Global, kind: Kind, given: &str) -> Result<Vec<u8>, NoMemory> {
     match kind {
         Kind::Reading => readings::answer(alloc, given),
         Kind::Policy => policies::answer(alloc, given),
-        _ => runs::answer(alloc, "run", given),
+        Kind::Bytes => run_of(alloc, given),
+        _ => runs::answer(alloc, "run", given.as_bytes()),
     }
 }
 
@@ -76,6 +90,8 @@ fn fault<'a, R: Files + AllocGlobal>(
 ) -> Result<Option<&'a str>, NoMemory> {
     match kind {
         Kind::Run => runs::fault(rt, folder, case),
+        Kind::Fault => runs::fault_of_stream(rt, folder, case),
+        Kind::Log => logs::fault(rt.alloc(), case),
         Kind::Round => rounds::fault(rt.alloc(), case),
         Kind::Locks => locks::fault(rt.alloc(), case),
         Kind::Traced(law) => Ok(traces::fault(rt, folder, law, case)),
@@ -137,6 +153,9 @@ fn main(rt: HostRuntime) -> io::Result<()> {
     let folder = folder(&rt);
     for (name, file, kind) in [
         ("runs", "runs", Kind::Run),
+        ("streams", "streams", Kind::Fault),
+        ("bytes", "bytes", Kind::Bytes),
+        ("logs", "logs", Kind::Log),
         ("evaluations", "evaluations", Kind::Evaluation),
         ("readings", "readings", Kind::Reading),
         ("rounds/hand", "rounds/hand", Kind::Round),

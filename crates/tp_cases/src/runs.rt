@@ -34,24 +34,57 @@ fn ending(alloc: Global, status: u8, out: &[u8], notes: &[u8]) -> Result<Vec<u8>
     Ok(ending)
 }
 
+/// The call of a stream that fails: of `in`, `out` or `notes`, counted from 0.
+#[derive(Clone, Copy)]
+struct Failing<'a> {
+    stream: &'a str,
+    call: u64,
+}
+
+/// No call of a stream fails.
+const NONE: Failing = Failing {
+    stream: "",
+    call: 0,
+};
+
+/// The calls of a stream that fail.
+fn calls_of(alloc: Global, stream: &str, failing: Failing) -> Result<List<u64>, AllocError> {
+    let mut calls = Vec::new(alloc);
+    if failing.stream == stream {
+        calls.push(failing.call)?;
+    }
+    Ok(List::from_vec(calls))
+}
+
 /// How a call ends on an input that comes in pieces, with sinks that take few bytes at once.
-fn call(alloc: Global, words: &[Text], input: Vec<u8>) -> Result<Vec<u8>, AllocError> {
-    let mut source = MemorySource::new(List::from_vec(input), List::new(alloc), 100);
-    let mut out = MemorySink::new(alloc, List::new(alloc), 3);
-    let mut notes = MemorySink::new(alloc, List::new(alloc), 3);
+fn call(
+    alloc: Global,
+    words: &[Text],
+    input: Vec<u8>,
+    failing: Failing,
+) -> Result<Vec<u8>, AllocError> {
+    let reads = calls_of(alloc, "in", failing)?;
+    let mut source = MemorySource::new(List::from_vec(input), reads, 100);
+    let mut out = MemorySink::new(alloc, calls_of(alloc, "out", failing)?, 3);
+    let mut notes = MemorySink::new(alloc, calls_of(alloc, "notes", failing)?, 3);
     let status = tpvc(alloc, words, &mut source, &mut out, &mut notes).number();
     ending(alloc, status, out.bytes(), notes.bytes())
 }
 
-fn called(alloc: Global, words: &[&str], input: Vec<u8>) -> Result<Vec<u8>, AllocError> {
+fn called(
+    alloc: Global,
+    words: &[&str],
+    input: Vec<u8>,
+    failing: Failing,
+) -> Result<Vec<u8>, AllocError> {
     let words = words_of(alloc, words)?;
-    call(alloc, words.as_slice(), input)
+    call(alloc, words.as_slice(), input, failing)
 }
 
 /// What a command makes of a scenario, or how else its call ends.
-pub fn answer(alloc: Global, command: &str, scenario: &str) -> Result<Vec<u8>, NoMemory> {
-    let input = Vec::from_slice(alloc, scenario.as_bytes())?;
-    Ok(called(alloc, &[command], input)?)
+pub fn answer(alloc: Global, command: &str, scenario: &[u8]) -> Result<Vec<u8>, NoMemory> {
+    let input = Vec::from_slice(alloc, scenario)?;
+    Ok(called(alloc, &[command], input, NONE)?)
 }
 
 fn file<R: Files + AllocGlobal>(
@@ -102,7 +135,7 @@ fn ends_so<R: Files + AllocGlobal>(
     let (name, length) = named.split_once(':').unwrap_or((named, ""));
     let input = input(rt, folder, name, length)?;
     let (ending, wanted) = both(
-        called(rt.alloc(), words, input).map_err(io::Error::from),
+        called(rt.alloc(), words, input, NONE).map_err(io::Error::from),
         wanted(rt, folder, name, status),
     )?;
     Ok(ending.as_slice() == wanted.as_slice())
@@ -133,4 +166,80 @@ pub fn fault<'a, R: Files + AllocGlobal>(
 ) -> Result<Option<&'a str>, NoMemory> {
     let words: Vec<&str> = line.split_whitespace().collect(rt.alloc())?;
     Ok(fault_of(rt, folder, words.as_slice()))
+}
+
+/// So many bytes of a file, or none where there is no such file.
+fn front<R: Files + AllocGlobal>(
+    rt: &R,
+    folder: &str,
+    name: &str,
+    kind: &str,
+    count: &str,
+) -> io::Result<Vec<u8>> {
+    let mut front = file(rt, folder, name, kind).unwrap_or(Vec::new(rt.alloc()));
+    fill(&mut front, count)?;
+    Ok(front)
+}
+
+/// How a case is to end at a fault: with the status, and with so many bytes on out and on notes.
+fn wanted_at_fault<R: Files + AllocGlobal>(
+    rt: &R,
+    folder: &str,
+    name: &str,
+    [status, out, notes]: [&str; 3],
+) -> io::Result<Vec<u8>> {
+    let (out, notes) = both(
+        front(rt, folder, name, "out", out),
+        front(rt, folder, name, "err", notes),
+    )?;
+    let status = status.parse::<u8>().unwrap_or(u8::MAX);
+    Ok(ending(rt.alloc(), status, out.as_slice(), notes.as_slice())?)
+}
+
+/// Whether the case of this name ends as it is to where a call of a stream fails.
+fn fails_so<R: Files + AllocGlobal>(
+    rt: &R,
+    folder: &str,
+    named: &str,
+    failing: Failing,
+    ends: [&str; 3],
+    words: &[&str],
+) -> io::Result<bool> {
+    let (name, length) = named.split_once(':').unwrap_or((named, ""));
+    let input = input(rt, folder, name, length)?;
+    let (ending, wanted) = both(
+        called(rt.alloc(), words, input, failing).map_err(io::Error::from),
+        wanted_at_fault(rt, folder, name, ends),
+    )?;
+    Ok(ending.as_slice() == wanted.as_slice())
+}
+
+fn fault_at_fault<'a, R: Files + AllocGlobal>(
+    rt: &R,
+    folder: &str,
+    words: &[&'a str],
+) -> Option<&'a str> {
+    match words {
+        [named, status, stream, call, out, notes, words @ ..] => {
+            let call = call.parse::<u64>().unwrap_or(u64::MAX);
+            let failing = Failing { stream, call };
+            let ends = [*status, *out, *notes];
+            if fails_so(rt, folder, named, failing, ends, words).unwrap_or(false) {
+                None
+            } else {
+                Some(named)
+            }
+        }
+        _ => Some("a line without a call that fails"),
+    }
+}
+
+/// The name of the case of a line, where it does not end at the fault as the line says.
+pub fn fault_of_stream<'a, R: Files + AllocGlobal>(
+    rt: &R,
+    folder: &str,
+    line: &'a str,
+) -> Result<Option<&'a str>, NoMemory> {
+    let words: Vec<&str> = line.split_whitespace().collect(rt.alloc())?;
+    Ok(fault_at_fault(rt, folder, words.as_slice()))
 }

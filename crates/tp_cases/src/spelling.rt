@@ -58,7 +58,19 @@ pub fn unescaped(alloc: Global, text: &str) -> Result<Vec<u8>, NoMemory> {
     Ok(bytes)
 }
 
-/// Adds blanks up to a length, where one is told.
+/// The bytes that a word spells, each by two digits of base 16. `-` is none.
+pub fn bytes_of(alloc: Global, word: &str) -> Result<Vec<u8>, NoMemory> {
+    let mut bytes = Vec::new(alloc);
+    let mut rest = word;
+    for _byte in 0..word.len() / 2 {
+        let (byte, behind) = byte_of(rest);
+        bytes.push(byte)?;
+        rest = behind;
+    }
+    Ok(bytes)
+}
+
+/// Adds blanks up to a length, where one is told, or cuts off what is behind it.
 pub fn fill(bytes: &mut Vec<u8>, length: &str) -> Result<(), AllocError> {
     match length.parse::<usize>() {
         Ok(length) => bytes.resize(length, b' '),

@@ -91,7 +91,7 @@ fn replayed(alloc: Global, scenario: &str, trace: &str) -> Result<String, NoMemo
 
 /// Whether a command makes this text of a scenario.
 fn makes(alloc: Global, command: &str, scenario: &str, text: &[u8]) -> Result<bool, NoMemory> {
-    let answer = runs::answer(alloc, command, scenario)?;
+    let answer = runs::answer(alloc, command, scenario.as_bytes())?;
     Ok(answer.as_slice() == text)
 }
 
@@ -103,7 +103,7 @@ fn is_told(alloc: Global, scenario: &str, trace: &str) -> Result<bool, NoMemory>
 fn is_replayed(alloc: Global, scenario: &str, trace: &str) -> Result<bool, NoMemory> {
     let replayed = replayed(alloc, scenario, trace)?;
     let listed = listed(alloc, trace)?;
-    let report = runs::answer(alloc, "run", scenario)?;
+    let report = runs::answer(alloc, "run", scenario.as_bytes())?;
     let has_report = makes(alloc, "run", replayed.as_str(), report.as_slice())?;
     let has_trace = makes(alloc, "trace", replayed.as_str(), listed.as_bytes())?;
     Ok(has_report && has_trace)
@@ -111,7 +111,7 @@ fn is_replayed(alloc: Global, scenario: &str, trace: &str) -> Result<bool, NoMem
 
 /// Whether the law holds of a scenario.
 fn is_kept(alloc: Global, law: Law, scenario: &str) -> Result<bool, NoMemory> {
-    let answer = runs::answer(alloc, "trace", scenario)?;
+    let answer = runs::answer(alloc, "trace", scenario.as_bytes())?;
     match (law, str::from_utf8(answer.as_slice())) {
         (_, Err(_)) => Ok(false),
         (Law::Told, Ok(trace)) => is_told(alloc, scenario, trace),
