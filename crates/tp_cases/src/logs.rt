@@ -41,8 +41,10 @@ fn disk_of(alloc: Global, bytes: &[u8]) -> Result<MemoryDisk, NoMemory> {
 fn found_on(alloc: Global, disk: MemoryDisk) -> Result<Found, NoMemory> {
     match Log::opened(alloc, disk) {
         Ok((_log, found)) => bodies_of(alloc, found.as_slice()),
-        Err((_disk, LogError::NotALog { place })) => Ok(Found::NotALog(place)),
-        Err(_) => Err(NoMemory),
+        Err((_disk, error)) => match error {
+            LogError::NotALog { place } => Ok(Found::NotALog(place)),
+            _ => Err(NoMemory),
+        },
     }
 }
 
